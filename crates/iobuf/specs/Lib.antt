@@ -1,0 +1,5 @@
+pub mod Sizes
+pub mod Faults
+pub mod Stretches
+pub mod Values
+pub mod Kinds

@@ -1,0 +1,6 @@
+pub mod ask;
+pub mod buf;
+pub mod chunk;
+pub mod fault;
+pub mod run;
+pub mod store;

@@ -1,0 +1,66 @@
+ghost use mathlib.Core.Path.{_≡_};
+ghost use Rattle.std.specs.Results.{Cases};
+ghost use Rattle.iobuf.specs.Faults.{Short, run-too-long};
+ghost use Rattle.iobuf.specs.Kinds.{run-value};
+ghost use Rattle.iobuf.specs.Sizes.{store-size};
+ghost use Rattle.iobuf.specs.Values.{no-tail};
+use super::Run;
+use crate::ask;
+use crate::chunk::Chunk;
+use crate::chunk::SharedChunk;
+use crate::fault::Fault;
+use crate::fault::Layer;
+use crate::store::Store;
+
+impl Run {
+    pub fn new(byte: u8, count: usize) -> Result<Run, Fault>
+        ensures { λ r. ⌜ Cases r (λ x. (x .byte ≡ byte) × (x .count ≡ count)) (Short count store-size (run-too-long count)) ⌝ }
+    {
+        ask::run_length(count)?;
+        Ok(Run { byte, count })
+    }
+}
+
+pub impl Chunk for Run as RunChunk {
+    ghost value = { run-value };
+
+    ghost size = { λ x. x .count };
+
+    ghost tail = { λ _. no-tail };
+
+    fn remaining(&self) -> usize {
+        self.count
+    }
+
+    fn capacity(&self) -> usize {
+        self.count
+    }
+
+    fn write_out(&self, _store: &Store, n: usize, out: &mut [u8]) -> Result<(), Fault> {
+        ask::bytes(Layer::Chunk, n, self.count)?;
+        ask::places(Layer::Chunk, n, out.len())?;
+        out[0..n].fill(self.byte);
+        Ok(())
+    }
+
+    fn advance(&mut self, n: usize) -> Result<(), Fault> {
+        ask::bytes(Layer::Chunk, n, self.count)?;
+        self.count -= n;
+        Ok(())
+    }
+
+    fn blank() -> Self {
+        Run { byte: 0, count: 0 }
+    }
+}
+
+pub impl SharedChunk for Run as RunShared {
+    fn cut(&mut self, n: usize) -> Result<Run, Fault> {
+        ask::bytes(Layer::Chunk, n, self.count)?;
+        self.count -= n;
+        Ok(Run {
+            byte: self.byte,
+            count: n,
+        })
+    }
+}
