@@ -64,10 +64,10 @@ number LengthsDiffer = 8
 number RunTooLong = 9
 
 -- the number of a layer, counted from the bottom
-abbrev pub layer-number : Layer → ℕ
-layer-number Store = 1
-layer-number Chunk = 2
-layer-number Container = 3
+abbrev pub level : Layer → ℕ
+level Store = 1
+level Chunk = 2
+level Container = 3
 
 -- a refusal in plain words
 abbrev pub refusal-words : Refusal → List ℕ
@@ -91,5 +91,5 @@ layer-words Container = codes "container"
 abbrev pub fault-words : Fault → List ℕ
 fault-words f =
     codes "refused " ++ (decimal (number (f .refusal)) ++ (codes " (" ++ (refusal-words (f .refusal) ++ (codes "), layer "
-    ++ (decimal (layer-number (f .layer)) ++ (codes " (" ++ (layer-words (f .layer) ++ (codes "): asked "
+    ++ (decimal (level (f .layer)) ++ (codes " (" ++ (layer-words (f .layer) ++ (codes "): asked "
     ++ (decimal (f .asked) ++ (codes ", available " ++ decimal (f .available)))))))))))

@@ -1,9 +1,8 @@
 -- What the calls of a store answer and leave.
 use mathlib.Core.Bool.{cond}
-use mathlib.Core.List.{List, []}
+use mathlib.Core.List.{List}
 use Prim.Native.Nat.{ℕ, _+_, _-_}
 use lib.Dec.{leb}
-use lib.ListN.{take}
 use Rattle.std.specs.declared.option.Option.{Option}
 use Rattle.std.specs.declared.option.Option.the-variants.{Some, None}
 use Rattle.std.specs.declared.result.Result.{Result}
@@ -29,6 +28,6 @@ reserved used c = cond (leb c (free used)) (Ok (start used)) (Err (fault (no-sto
 abbrev pub viewed : ℕ → ℕ → List ℕ → Option (List ℕ)
 viewed place n m = cond (leb (place + n) store-size) (Some (part place n m)) None
 
--- what a stretch of n bytes takes of s: as much as fits, and nothing where it does not lie within the store
-abbrev pub poured : ℕ → ℕ → List ℕ → List ℕ
-poured place n s = cond (leb (place + n) store-size) (take n s) []
+-- how many bytes a stretch of n bytes takes: none where it does not lie within the store
+abbrev pub fitting : ℕ → ℕ → ℕ
+fitting place n = cond (leb (place + n) store-size) n 0

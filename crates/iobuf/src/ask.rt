@@ -5,7 +5,7 @@ ghost use Rattle.iobuf.specs.Sizes.{store-size};
 use crate::fault::Fault;
 use crate::fault::Layer;
 use crate::fault::Refusal;
-use crate::store::STORE_SIZE;
+use crate::sizes::STORE_SIZE;
 
 // Are there `n` bytes, of `remaining`?
 pub fn bytes(called: Layer, n: usize, remaining: usize) -> Result<(), Fault>

@@ -3,6 +3,7 @@ ghost use Rattle.iobuf.specs.Sizes.{store-size};
 
 mod part;
 pub mod shared;
+pub mod steps;
 pub mod writable;
 
 // The `len` bytes of a store from `place` on.

@@ -1,6 +1,6 @@
 ghost use mathlib.Core.Path.{_≡_};
 ghost use Rattle.std.specs.declared.option.Option.the-variants.{Some};
-ghost use Rattle.iobuf.specs.Faults.{number, refusal-words, layer-number, layer-words, fault-words};
+ghost use Rattle.iobuf.specs.Faults.{number, refusal-words, level, layer-words, fault-words};
 use std::fmt;
 
 // The question to which a call answered no. Its number is its discriminant.
@@ -35,12 +35,6 @@ pub struct Fault {
 }
 
 impl Refusal {
-    pub fn number(self) -> u8
-        ensures { λ r. ⌜ r ≡ number self ⌝ }
-    {
-        self as u8
-    }
-
     pub fn words(self) -> &'static str
         ensures { λ r. ⌜ now r ≡ refusal-words self ⌝ }
     {
@@ -59,12 +53,6 @@ impl Refusal {
 }
 
 impl Layer {
-    pub fn number(self) -> u8
-        ensures { λ r. ⌜ r ≡ layer-number self ⌝ }
-    {
-        self as u8
-    }
-
     pub fn words(self) -> &'static str
         ensures { λ r. ⌜ now r ≡ layer-words self ⌝ }
     {
@@ -76,13 +64,29 @@ impl Layer {
     }
 }
 
+impl Fault {
+    // The number by which its refusal is known.
+    pub fn number(&self) -> u8
+        ensures { λ r. ⌜ r ≡ number (now (self .entry) .refusal) ⌝ }
+    {
+        self.refusal as u8
+    }
+
+    // The number of its layer, counted from the bottom.
+    pub fn level(&self) -> u8
+        ensures { λ r. ⌜ r ≡ level (now (self .entry) .layer) ⌝ }
+    {
+        self.layer as u8
+    }
+}
+
 pub impl fmt::Display for Fault as FaultDisplay {
     ghost shown = { λ f. Some (fault-words f) };
 
     fn fmt<W: fmt::Write>(&self, f: &mut fmt::Formatter<W>) -> fmt::Result {
-        let number = self.refusal.number();
+        let number = self.number();
         let why = self.refusal.words();
-        let level = self.layer.number();
+        let level = self.level();
         let layer = self.layer.words();
         let asked = self.asked;
         let available = self.available;

@@ -3,4 +3,5 @@ pub mod buf;
 pub mod chunk;
 pub mod fault;
 pub mod run;
+pub mod sizes;
 pub mod store;

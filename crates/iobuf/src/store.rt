@@ -2,10 +2,9 @@ ghost use mathlib.Core.Path.{_≡_};
 ghost use Prim.Native.Nat.{_≤_};
 ghost use lib.ListN.{length};
 ghost use Rattle.iobuf.specs.Sizes.{store-size};
+use crate::sizes::STORE_SIZE;
 
 pub mod calls;
-
-pub const STORE_SIZE: usize = 16384;
 
 // The bytes that chunks lie in, of which the first `used` are given out.
 #[derive(Drop)]
@@ -15,4 +14,13 @@ pub struct Store {
     ghost within: { used ≤ store-size },
     // A proof that has only the struct does not know the array's length.
     ghost long: { length bytes ≡ store-size },
+}
+
+impl Store {
+    // How many bytes are given out.
+    pub fn used(&self) -> usize
+        ensures { λ r. ⌜ r ≡ now (self .entry) .used ⌝ }
+    {
+        self.used
+    }
 }

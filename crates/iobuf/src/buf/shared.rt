@@ -1,13 +1,40 @@
+ghost use mathlib.Core.Path.{_≡_};
+ghost use Prim.Native.Nat.{_≤_};
 ghost use Rattle.iobuf.specs.Kinds.{buf-value};
-ghost use Rattle.iobuf.specs.Values.{no-tail};
+ghost use Rattle.iobuf.specs.Values.{advanced, first, no-tail};
+ghost use Rattle.iobuf.specs.declared.store.Store.{Store};
 use super::IoBuf;
-use super::part::write_part;
+use super::part::write_first;
 use crate::ask;
 use crate::chunk::Chunk;
 use crate::chunk::SharedChunk;
 use crate::fault::Fault;
 use crate::fault::Layer;
 use crate::store::Store;
+
+impl IoBuf {
+    // The first `n` bytes.
+    fn first(self, n: usize) -> IoBuf
+        requires { ⌜ n ≤ self .len ⌝ }
+        ensures { λ r. ⌜ ((s : Store) → buf-value s r ≡ first n (buf-value s self)) ⌝ }
+    {
+        IoBuf {
+            place: self.place,
+            len: n,
+        }
+    }
+
+    // What is left without them.
+    fn rest(self, n: usize) -> IoBuf
+        requires { ⌜ n ≤ self .len ⌝ }
+        ensures { λ r. ⌜ ((s : Store) → buf-value s r ≡ advanced n (buf-value s self)) ⌝ }
+    {
+        IoBuf {
+            place: self.place + n,
+            len: self.len - n,
+        }
+    }
+}
 
 pub impl Chunk for IoBuf as IoBufChunk {
     ghost value = { buf-value };
@@ -21,17 +48,19 @@ pub impl Chunk for IoBuf as IoBufChunk {
     }
 
     fn capacity(&self) -> usize {
-        self.len
+        self.remaining()
     }
 
     fn write_out(&self, store: &Store, n: usize, out: &mut [u8]) -> Result<(), Fault> {
-        write_part(store, self.place, self.len, n, out)
+        ask::bytes(Layer::Chunk, n, self.len)?;
+        ask::places(Layer::Chunk, n, out.len())?;
+        write_first(store, self.place, self.len, n, out);
+        Ok(())
     }
 
     fn advance(&mut self, n: usize) -> Result<(), Fault> {
         ask::bytes(Layer::Chunk, n, self.len)?;
-        self.place += n;
-        self.len -= n;
+        *self = self.rest(n);
         Ok(())
     }
 
@@ -43,12 +72,8 @@ pub impl Chunk for IoBuf as IoBufChunk {
 pub impl SharedChunk for IoBuf as IoBufShared {
     fn cut(&mut self, n: usize) -> Result<IoBuf, Fault> {
         ask::bytes(Layer::Chunk, n, self.len)?;
-        let front = IoBuf {
-            place: self.place,
-            len: n,
-        };
-        self.place += n;
-        self.len -= n;
-        Ok(front)
+        let whole = *self;
+        *self = whole.rest(n);
+        Ok(whole.first(n))
     }
 }

@@ -1,9 +1,12 @@
 ghost use mathlib.Core.Path.{_≡_};
+ghost use Prim.Native.Nat.{_≤_};
+ghost use lib.ListN.{length, replicate};
 ghost use Rattle.std.specs.Results.{Cases};
 ghost use Rattle.iobuf.specs.Faults.{Short, run-too-long};
 ghost use Rattle.iobuf.specs.Kinds.{run-value};
 ghost use Rattle.iobuf.specs.Sizes.{store-size};
-ghost use Rattle.iobuf.specs.Values.{no-tail};
+ghost use Rattle.iobuf.specs.declared.store.Store.{Store};
+ghost use Rattle.iobuf.specs.Values.{Written, advanced, first, no-tail};
 use super::Run;
 use crate::ask;
 use crate::chunk::Chunk;
@@ -19,6 +22,36 @@ impl Run {
         ask::run_length(count)?;
         Ok(Run { byte, count })
     }
+
+    // The first `n` bytes.
+    fn first(self, n: usize) -> Run
+        requires { ⌜ n ≤ self .count ⌝ }
+        ensures { λ r. ⌜ ((s : Store) → run-value s r ≡ first n (run-value s self)) ⌝ }
+    {
+        Run {
+            byte: self.byte,
+            count: n,
+        }
+    }
+
+    // What is left without them.
+    fn rest(self, n: usize) -> Run
+        requires { ⌜ n ≤ self .count ⌝ }
+        ensures { λ r. ⌜ ((s : Store) → run-value s r ≡ advanced n (run-value s self)) ⌝ }
+    {
+        Run {
+            byte: self.byte,
+            count: self.count - n,
+        }
+    }
+
+    fn write_first(self, n: usize, out: &mut [u8])
+        requires within { ⌜ n ≤ self .count ⌝ }
+        requires fits { ⌜ n ≤ length (now out) ⌝ }
+        ensures { λ _. ⌜ Written n (replicate (self .count) (self .byte)) (now (out .entry)) (now (out .exit)) ⌝ }
+    {
+        out[0..n].fill(self.byte);
+    }
 }
 
 pub impl Chunk for Run as RunChunk {
@@ -33,19 +66,19 @@ pub impl Chunk for Run as RunChunk {
     }
 
     fn capacity(&self) -> usize {
-        self.count
+        self.remaining()
     }
 
     fn write_out(&self, _store: &Store, n: usize, out: &mut [u8]) -> Result<(), Fault> {
         ask::bytes(Layer::Chunk, n, self.count)?;
         ask::places(Layer::Chunk, n, out.len())?;
-        out[0..n].fill(self.byte);
+        self.write_first(n, out);
         Ok(())
     }
 
     fn advance(&mut self, n: usize) -> Result<(), Fault> {
         ask::bytes(Layer::Chunk, n, self.count)?;
-        self.count -= n;
+        *self = self.rest(n);
         Ok(())
     }
 
@@ -57,10 +90,8 @@ pub impl Chunk for Run as RunChunk {
 pub impl SharedChunk for Run as RunShared {
     fn cut(&mut self, n: usize) -> Result<Run, Fault> {
         ask::bytes(Layer::Chunk, n, self.count)?;
-        self.count -= n;
-        Ok(Run {
-            byte: self.byte,
-            count: n,
-        })
+        let whole = *self;
+        *self = whole.rest(n);
+        Ok(whole.first(n))
     }
 }

@@ -1,17 +1,18 @@
 ghost use mathlib.Core.Path.{_≡_};
 ghost use mathlib.Core.List.{_++_};
 ghost use Prim.Native.Nat.{_+_, _≤_, min};
+ghost use lib.Dec.{leb};
 ghost use lib.ListN.{length, replicate, take, drop};
 ghost use denote.Ref.{now};
 ghost use Rattle.std.specs.Options.{mapped};
 ghost use Rattle.std.specs.Results.{Cases};
 ghost use Rattle.iobuf.specs.Sizes.{store-size};
 ghost use Rattle.lists.specs.Parts.{laid, part};
-ghost use Rattle.iobuf.specs.Stretches.{reserved, viewed, poured};
-use super::STORE_SIZE;
+ghost use Rattle.iobuf.specs.Stretches.{reserved, viewed, fitting};
 use super::Store;
 use crate::ask;
 use crate::fault::Fault;
+use crate::sizes::STORE_SIZE;
 
 impl Store {
     pub fn new() -> Store
@@ -22,13 +23,6 @@ impl Store {
             bytes: [0; STORE_SIZE],
             used: 0,
         }
-    }
-
-    // How many bytes are given out.
-    pub fn used(&self) -> usize
-        ensures { λ r. ⌜ r ≡ now (self .entry) .used ⌝ }
-    {
-        self.used
     }
 
     // Gives out the next `c` bytes, and says where they begin.
@@ -46,7 +40,7 @@ impl Store {
     pub fn view(&self, place: usize, n: usize) -> Option<&[u8]>
         ensures { λ r. ⌜ mapped (λ x. now x) r ≡ viewed place n (now (self .entry) .bytes) ⌝ }
     {
-        if place > STORE_SIZE || n > STORE_SIZE - place {
+        if !within(place, n) {
             return None;
         }
         Some(&self.bytes[place..place + n])
@@ -63,15 +57,22 @@ impl Store {
     // Pours the front of `s` into the `n` bytes from `place` on, and says how much.
     // A stretch that does not lie within the store takes nothing.
     pub(crate) fn pour_at(&mut self, place: usize, n: usize, s: &[u8]) -> usize
-        ensures count { λ r. ⌜ r ≡ length (poured place n (now (s .entry))) ⌝ }
-        ensures bytes { λ _. ⌜ now (self .exit) .bytes ≡ laid place (poured place n (now (s .entry))) (now (self .entry) .bytes) ⌝ }
+        ensures count { λ r. ⌜ r ≡ min (length (now (s .entry))) (fitting place n) ⌝ }
+        ensures bytes { λ _. ⌜ now (self .exit) .bytes ≡ laid place (take (fitting place n) (now (s .entry))) (now (self .entry) .bytes) ⌝ }
         ensures used { λ _. ⌜ now (self .exit) .used ≡ now (self .entry) .used ⌝ }
     {
-        if place > STORE_SIZE || n > STORE_SIZE - place {
+        if !within(place, n) {
             return 0;
         }
         pour(&mut self.bytes[place..place + n], s)
     }
+}
+
+// Do the `n` bytes from `place` on lie within a store?
+fn within(place: usize, n: usize) -> bool
+    ensures { λ r. ⌜ r ≡ leb (place + n) store-size ⌝ }
+{
+    place <= STORE_SIZE && n <= STORE_SIZE - place
 }
 
 // Copies the front of `s` into the front of `stretch`, as much as fits, and says how much.

@@ -1,16 +1,13 @@
-use mathlib.Core.Path.{_≡_, refl, sym, ap, _∙_}
-use Prim.Native.Nat.{ℕ, _+_, _-_, _<_, _≤_}
-use native.Mathlib.Omega.{arith}
+use Prim.Native.Nat.{_+_, _≤_}
 use borrow.Author.Needs.{needs}
-use lib.ListN.{length, length-take}
+use borrow.Author.Tests.{true-leb}
 use Rattle.std.proofs.shelf.Lists.{places}
 use Rattle.iobuf.specs.Sizes.{store-size}
-use Rattle.iobuf.proofs.Pours.{poured-outside, laid-outside, laid-within, count-within}
+use Rattle.iobuf.proofs.Pours.{laid-outside, laid-within, count-within}
 use Rattle.iobuf.proofs.store.Store.pour_at.Needs as need
 
-pub returns-then-place-gt-STORE-SIZE : need.returns-then-place-gt-STORE-SIZE
-returns-then-place-gt-STORE-SIZE c =
-    record { count = search (needs, poured-outside); bytes = search (needs, laid-outside); used = search needs }
+pub returns-then-not-within : need.returns-then-not-within
+returns-then-not-within c = record { count = search needs; bytes = search (needs, laid-outside); used = search needs }
 
 pub ghost-self : need.ghost-self
 ghost-self c = (c .args .self .now .within, (search (needs, places), tt))
@@ -18,7 +15,7 @@ ghost-self c = (c .args .self .now .within, (search (needs, places), tt))
 pub returns : need.returns
 returns c =
     let m = c .args .self .now in
-    let within : c .args .place + c .args .n ≤ store-size = omega arith in
+    let within : c .args .place + c .args .n ≤ store-size = true-leb _ _ (c .if-not-within .ensures tt) in
     record {
       count = count-within (c .args .place) (c .args .n) (c .pour .result) (c .args .s .now) (m .bytes) (c .pour .ensures .count) within (m .long);
       bytes = search (needs, laid-within);

@@ -1,0 +1,46 @@
+ghost use mathlib.Core.Path.{_≡_};
+ghost use lib.ListN.{length, replicate};
+ghost use Rattle.std.specs.Results.{Cases};
+ghost use Rattle.calls.specs.Performed.{handed, left, counted, put};
+use crate::call::Call;
+use iobuf::chunk::Chunk;
+use iobuf::chunk::SharedChunk;
+use iobuf::fault::Fault;
+use iobuf::run::Run;
+use iobuf::run::calls::RunChunk;
+use iobuf::run::calls::RunShared;
+use iobuf::sizes::STORE_SIZE;
+use iobuf::store::Store;
+
+// Performs one call on `page`, writes what it hands out to the front of `out`, and says how much that is.
+pub fn perform(
+    call: Call,
+    store: &Store,
+    page: &mut Run,
+    out: &mut [u8; STORE_SIZE],
+) -> Result<usize, Fault>
+    ensures answer { λ r. ⌜ r ≡ counted (handed call (replicate (now (page .entry) .count) (now (page .entry) .byte))) ⌝ }
+    ensures page { λ _. ⌜ replicate (now (page .exit) .count) (now (page .exit) .byte) ≡ left call (replicate (now (page .entry) .count) (now (page .entry) .byte)) ⌝ }
+    ensures refused { λ r. ⌜ Cases r (λ _. Unit {0}) (λ _. now (page .exit) ≡ now (page .entry)) ⌝ }
+    ensures output { λ _. ⌜ now (out .exit) ≡ put (handed call (replicate (now (page .entry) .count) (now (page .entry) .byte))) (now (out .entry)) ⌝ }
+{
+    match call {
+        Call::Run { byte, count } => {
+            *page = Run::new(byte, count)?;
+            Ok(0)
+        }
+        Call::Cut { n } => {
+            let piece = page.cut(n)?;
+            piece.write_out(store, n, out)?;
+            Ok(n)
+        }
+        Call::Advance { n } => {
+            page.advance(n)?;
+            Ok(0)
+        }
+        Call::WriteOut { n } => {
+            page.write_out(store, n, out)?;
+            Ok(n)
+        }
+    }
+}
