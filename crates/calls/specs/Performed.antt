@@ -6,11 +6,11 @@ use lib.Dec.{leb}
 use lib.ListN.{length, take, drop, replicate}
 use Rattle.std.specs.declared.result.Result.{Result}
 use Rattle.std.specs.declared.result.Result.the-variants.{Ok, Err}
-use Rattle.iobuf.specs.Faults.{fault, not-enough-bytes, run-too-long}
-use Rattle.iobuf.specs.Sizes.{store-size}
-use Rattle.iobuf.specs.declared.fault.Fault.{Fault}
-use Rattle.iobuf.specs.declared.fault.Layer.{Layer}
-use Rattle.iobuf.specs.declared.fault.Layer.the-variants.{Chunk}
+use Rattle.store.specs.Faults.{fault, not-enough-bytes, run-too-long}
+use Rattle.store.specs.Sizes.{store-size}
+use Rattle.store.specs.declared.fault.Fault.{Fault}
+use Rattle.store.specs.declared.fault.Layer.{Layer}
+use Rattle.store.specs.declared.fault.Layer.the-variants.{Chunk}
 use Rattle.calls.specs.declared.call.Call.{Call}
 use Rattle.calls.specs.declared.call.Call.the-variants.{Run, Cut, Advance, WriteOut}
 

@@ -1,16 +1,18 @@
 ghost use mathlib.Core.Path.{_≡_};
+ghost use Prim.Native.Nat.{_≤_};
 ghost use lib.ListN.{length, replicate};
 ghost use Rattle.std.specs.Results.{Cases};
+ghost use Rattle.store.specs.Sizes.{store-size};
 ghost use Rattle.calls.specs.Performed.{handed, left, counted, put};
 use crate::call::Call;
 use iobuf::chunk::Chunk;
 use iobuf::chunk::SharedChunk;
-use iobuf::fault::Fault;
+use store::fault::Fault;
 use iobuf::run::Run;
 use iobuf::run::calls::RunChunk;
 use iobuf::run::calls::RunShared;
-use iobuf::sizes::STORE_SIZE;
-use iobuf::store::Store;
+use store::sizes::STORE_SIZE;
+use store::space::Store;
 
 // Performs one call on `page`, writes what it hands out to the front of `out`, and says how much that is.
 pub fn perform(
@@ -20,6 +22,7 @@ pub fn perform(
     out: &mut [u8; STORE_SIZE],
 ) -> Result<usize, Fault>
     ensures answer { λ r. ⌜ r ≡ counted (handed call (replicate (now (page .entry) .count) (now (page .entry) .byte))) ⌝ }
+    ensures within { λ r. ⌜ Cases r (λ n. n ≤ store-size) (λ _. Unit {0}) ⌝ }
     ensures page { λ _. ⌜ replicate (now (page .exit) .count) (now (page .exit) .byte) ≡ left call (replicate (now (page .entry) .count) (now (page .entry) .byte)) ⌝ }
     ensures refused { λ r. ⌜ Cases r (λ _. Unit {0}) (λ _. now (page .exit) ≡ now (page .entry)) ⌝ }
     ensures output { λ _. ⌜ now (out .exit) ≡ put (handed call (replicate (now (page .entry) .count) (now (page .entry) .byte))) (now (out .entry)) ⌝ }

@@ -1,2 +1,1 @@
-pub mod Pours
 pub mod Writes

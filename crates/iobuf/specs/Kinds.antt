@@ -6,7 +6,7 @@ use Rattle.iobuf.specs.Values.{Value, Tail, flat}
 use Rattle.iobuf.specs.declared.buf.IoBuf.{IoBuf}
 use Rattle.iobuf.specs.declared.buf.IoBufMut.{IoBufMut}
 use Rattle.iobuf.specs.declared.run.Run.{Run}
-use Rattle.iobuf.specs.declared.store.Store.{Store}
+use Rattle.store.specs.declared.space.Store.{Store}
 
 -- a run is its byte, as often as it counts
 abbrev pub run-value : Store → Run → Value

@@ -3,7 +3,7 @@ use mathlib.Core.Path.{_≡_}
 use mathlib.Core.List.{List, _++_}
 use Prim.Native.Nat.{ℕ, _+_, _≤_}
 use lib.ListN.{length, take, drop}
-use Rattle.iobuf.specs.declared.store.Store.{Store}
+use Rattle.store.specs.declared.space.Store.{Store}
 
 -- the writable bytes of a chunk: where in the store they begin, and how many they are
 pub record Tail : Type 0 where

@@ -3,13 +3,13 @@ ghost use mathlib.Core.List.{[]};
 ghost use Prim.Native.Nat.{ℕ, _+_, _≤_};
 ghost use lib.ListN.{length};
 ghost use Rattle.std.specs.Results.{Cases};
-ghost use Rattle.iobuf.specs.Faults.{Short, Unwritten, not-enough-bytes};
-ghost use Rattle.iobuf.specs.Sizes.{store-size};
+ghost use Rattle.store.specs.Faults.{Short, Unwritten, not-enough-bytes};
+ghost use Rattle.store.specs.Sizes.{store-size};
 ghost use Rattle.iobuf.specs.Values.{Value, Tail, Advanced, Written, Cut, flat, no-tail};
-ghost use Rattle.iobuf.specs.declared.fault.Layer.{Layer};
-ghost use Rattle.iobuf.specs.declared.store.Store.{Store};
-use crate::fault::Fault;
-use crate::store::Store;
+ghost use Rattle.store.specs.declared.fault.Layer.{Layer};
+ghost use Rattle.store.specs.declared.space.Store.{Store};
+use store::fault::Fault;
+use store::space::Store;
 
 // A kind of chunk: bytes that can be read, and behind them a tail that can be written.
 pub trait Chunk: Sized + Drop {

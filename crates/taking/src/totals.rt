@@ -2,8 +2,8 @@ ghost use mathlib.Core.List.{map};
 ghost use mathlib.Core.Path.{_≡_};
 ghost use Prim.Native.Nat.{_≤_};
 ghost use lib.ListN.{length};
-ghost use Rattle.iobuf.specs.Sizes.{chunk-limit};
-ghost use Rattle.iobuf.specs.declared.store.Store.{Store};
+ghost use Rattle.store.specs.Sizes.{chunk-limit};
+ghost use Rattle.store.specs.declared.space.Store.{Store};
 ghost use Rattle.lists.specs.Sums.{sum-by};
 ghost use Rattle.taking.specs.Totals.{joined};
 use iobuf::chunk::Chunk;
@@ -27,10 +27,10 @@ mod tests {
     use iobuf::buf::IoBufMut;
     use iobuf::buf::shared::IoBufChunk;
     use iobuf::buf::writable::IoBufMutChunk;
-    use iobuf::fault::FaultDebug;
+    use store::fault::FaultDebug;
     use iobuf::run::Run;
     use iobuf::run::calls::RunChunk;
-    use iobuf::store::Store;
+    use store::space::Store;
     use std::test::*;
 
     // One function adds up chunks of each kind.

@@ -1,9 +1,9 @@
 ghost use Prim.Native.Nat.{_+_, _≤_};
 ghost use lib.ListN.{length};
 ghost use Rattle.lists.specs.Parts.{part};
-ghost use Rattle.iobuf.specs.Sizes.{store-size};
+ghost use Rattle.store.specs.Sizes.{store-size};
 ghost use Rattle.iobuf.specs.Values.{Written};
-use crate::store::Store;
+use store::space::Store;
 
 // Copies the first `n` of the `len` bytes from `place` on to the first `n` places of `out`.
 pub(super) fn write_first(store: &Store, place: usize, len: usize, n: usize, out: &mut [u8])
@@ -12,5 +12,8 @@ pub(super) fn write_first(store: &Store, place: usize, len: usize, n: usize, out
     requires fits { ⌜ n ≤ length (now out) ⌝ }
     ensures { λ _. ⌜ Written n (part place len (now (store .entry) .bytes)) (now (out .entry)) (now (out .exit)) ⌝ }
 {
-    store.copy_out(place, &mut out[0..n]);
+    match store.view(place, n) {
+        Some(bytes) => out[0..n].copy_from_slice(bytes),
+        None => unreachable(),
+    }
 }

@@ -2,15 +2,15 @@ ghost use mathlib.Core.Path.{_≡_};
 ghost use Prim.Native.Nat.{_≤_};
 ghost use Rattle.iobuf.specs.Kinds.{buf-value};
 ghost use Rattle.iobuf.specs.Values.{advanced, first, no-tail};
-ghost use Rattle.iobuf.specs.declared.store.Store.{Store};
+ghost use Rattle.store.specs.declared.space.Store.{Store};
 use super::IoBuf;
 use super::part::write_first;
-use crate::ask;
+use store::ask;
 use crate::chunk::Chunk;
 use crate::chunk::SharedChunk;
-use crate::fault::Fault;
-use crate::fault::Layer;
-use crate::store::Store;
+use store::fault::Fault;
+use store::fault::Layer;
+use store::space::Store;
 
 impl IoBuf {
     // The first `n` bytes.

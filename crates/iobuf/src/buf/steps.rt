@@ -3,15 +3,15 @@ ghost use Prim.Native.Nat.{_+_, _≤_, min};
 ghost use lib.ListN.{length, take};
 ghost use Rattle.std.specs.Results.{Cases};
 ghost use Rattle.lists.specs.Parts.{laid};
-ghost use Rattle.iobuf.specs.Faults.{Short, no-store-room};
+ghost use Rattle.store.specs.Faults.{Short, no-store-room};
 ghost use Rattle.iobuf.specs.Kinds.{span, span-value, fresh, behind, room, grown, sized};
-ghost use Rattle.iobuf.specs.Stretches.{start, free};
+ghost use Rattle.store.specs.Stretches.{start, free};
 ghost use Rattle.iobuf.specs.Values.{advanced};
-ghost use Rattle.iobuf.specs.declared.store.Store.{Store};
+ghost use Rattle.store.specs.declared.space.Store.{Store};
 use super::IoBuf;
 use super::IoBufMut;
-use crate::fault::Fault;
-use crate::store::Store;
+use store::fault::Fault;
+use store::space::Store;
 
 impl IoBufMut {
     // Drops the first `n` bytes; the writable ones stay where they are.
@@ -44,7 +44,7 @@ impl IoBufMut {
         ensures bytes { λ _. ⌜ now (store .exit) .bytes ≡ laid (behind (span (now (self .entry)))) (take (room (span (now (self .entry)))) (now (s .entry))) (now (store .entry) .bytes) ⌝ }
         ensures used { λ _. ⌜ now (store .exit) .used ≡ now (store .entry) .used ⌝ }
     {
-        let count = store.pour_at(self.place + self.len, self.capacity - self.len, s);
+        let count = store.write(self.place + self.len, self.capacity - self.len, s);
         self.len += count;
         count
     }

@@ -1,11 +1,11 @@
 ghost use Rattle.iobuf.specs.Kinds.{span, span-tail, span-value};
 use super::IoBufMut;
 use super::part::write_first;
-use crate::ask;
+use store::ask;
 use crate::chunk::Chunk;
-use crate::fault::Fault;
-use crate::fault::Layer;
-use crate::store::Store;
+use store::fault::Fault;
+use store::fault::Layer;
+use store::space::Store;
 
 pub impl Chunk for IoBufMut as IoBufMutChunk {
     ghost value = { λ s x. span-value s (span x) };

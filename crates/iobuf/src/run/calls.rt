@@ -2,18 +2,18 @@ ghost use mathlib.Core.Path.{_≡_};
 ghost use Prim.Native.Nat.{_≤_};
 ghost use lib.ListN.{length, replicate};
 ghost use Rattle.std.specs.Results.{Cases};
-ghost use Rattle.iobuf.specs.Faults.{Short, run-too-long};
+ghost use Rattle.store.specs.Faults.{Short, run-too-long};
 ghost use Rattle.iobuf.specs.Kinds.{run-value};
-ghost use Rattle.iobuf.specs.Sizes.{store-size};
-ghost use Rattle.iobuf.specs.declared.store.Store.{Store};
+ghost use Rattle.store.specs.Sizes.{store-size};
+ghost use Rattle.store.specs.declared.space.Store.{Store};
 ghost use Rattle.iobuf.specs.Values.{Written, advanced, first, no-tail};
 use super::Run;
-use crate::ask;
+use store::ask;
 use crate::chunk::Chunk;
 use crate::chunk::SharedChunk;
-use crate::fault::Fault;
-use crate::fault::Layer;
-use crate::store::Store;
+use store::fault::Fault;
+use store::fault::Layer;
+use store::space::Store;
 
 impl Run {
     pub fn new(byte: u8, count: usize) -> Result<Run, Fault>

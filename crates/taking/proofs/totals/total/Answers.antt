@@ -2,7 +2,7 @@ use mathlib.Core.Path.{_≡_, sym, ap, _∙_}
 use native.Mathlib.Omega.{arith}
 use lib.ListN.{take}
 use Rattle.std.proofs.shelf.Lists.{take-all, length-take-le}
-use Rattle.iobuf.specs.Sizes.{store-size}
+use Rattle.store.specs.Sizes.{store-size}
 use Rattle.lists.specs.Sums.{sum-by}
 use Rattle.lists.proofs.Sums.{sum-more, sum-bound}
 use Rattle.taking.proofs.Joined.{length-joined}

@@ -1,9 +1,0 @@
-use mathlib.Core.Path.{ap, sym}
-use Rattle.iobuf.specs.Faults.{refusal-words}
-use Rattle.iobuf.proofs.fault.Refusal.words.Needs as need
-
-pub returns-in-NotEmpty : need.returns-in-NotEmpty
-returns-in-NotEmpty c = ap refusal-words (sym (c .in-NotEmpty .is))
-
-pub returns-in-LengthsDiffer : need.returns-in-LengthsDiffer
-returns-in-LengthsDiffer c = ap refusal-words (sym (c .in-LengthsDiffer .is))

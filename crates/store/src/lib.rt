@@ -1,0 +1,4 @@
+pub mod ask;
+pub mod fault;
+pub mod sizes;
+pub mod space;

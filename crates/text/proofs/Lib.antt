@@ -1,0 +1,4 @@
+pub mod Fronts
+pub mod Decimal
+pub mod Printed
+pub mod Spaced
