@@ -7,10 +7,10 @@ ghost use Rattle.calls.specs.Performed.{handed, left, counted, put};
 use crate::call::Call;
 use iobuf::chunk::Chunk;
 use iobuf::chunk::SharedChunk;
-use store::fault::Fault;
 use iobuf::run::Run;
 use iobuf::run::calls::RunChunk;
 use iobuf::run::calls::RunShared;
+use store::fault::Fault;
 use store::sizes::STORE_SIZE;
 use store::space::Store;
 

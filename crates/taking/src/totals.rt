@@ -27,11 +27,11 @@ mod tests {
     use iobuf::buf::IoBufMut;
     use iobuf::buf::shared::IoBufChunk;
     use iobuf::buf::writable::IoBufMutChunk;
-    use store::fault::FaultDebug;
     use iobuf::run::Run;
     use iobuf::run::calls::RunChunk;
-    use store::space::Store;
     use std::test::*;
+    use store::fault::FaultDebug;
+    use store::space::Store;
 
     // One function adds up chunks of each kind.
     #[test]

@@ -1,8 +1,8 @@
 ghost use Rattle.iobuf.specs.Kinds.{span, span-tail, span-value};
 use super::IoBufMut;
 use super::part::write_first;
-use store::ask;
 use crate::chunk::Chunk;
+use store::ask;
 use store::fault::Fault;
 use store::fault::Layer;
 use store::space::Store;

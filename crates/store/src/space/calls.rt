@@ -56,6 +56,16 @@ impl Store {
         if !within(place, n) {
             return 0;
         }
+        self.pour_at(place, n, s)
+    }
+
+    // Hands the `n` bytes from `place` on to the function that pours.
+    fn pour_at(&mut self, place: usize, n: usize, s: &[u8]) -> usize
+        requires { ⌜ place + n ≤ store-size ⌝ }
+        ensures count { λ r. ⌜ r ≡ min (length (now (s .entry))) n ⌝ }
+        ensures bytes { λ _. ⌜ now (self .exit) .bytes ≡ laid place (take n (now (s .entry))) (now (self .entry) .bytes) ⌝ }
+        ensures used { λ _. ⌜ now (self .exit) .used ≡ now (self .entry) .used ⌝ }
+    {
         pour(&mut self.bytes[place..place + n], s)
     }
 }

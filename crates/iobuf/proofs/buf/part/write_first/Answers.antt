@@ -19,4 +19,4 @@ returns c =
     let long = length-part (c .args .place) (c .args .len) m (omega arith) in
     let seen = shown (c .args .place) (c .args .n) m (c .in-Some .bytes .now) (omega arith) (c .in-Some .ensures tt) in
     written (c .args .n) _ (c .args .out .now) _ (omega (arith, long)) (c .pre .fits)
-      (c .copy-from-slice .ensures .after ∙ seen ∙ sym (take-part (c .args .place) (c .args .len) (c .args .n) m (c .pre .within)))
+    (c .copy-from-slice .ensures .after ∙ seen ∙ sym (take-part (c .args .place) (c .args .len) (c .args .n) m (c .pre .within)))
