@@ -1,7 +1,7 @@
 ghost use mathlib.Core.Path.{_≡_};
 ghost use Prim.Native.Nat.{_≤_};
-ghost use lib.ListN.{length, replicate};
 ghost use Rattle.std.specs.Results.{Cases};
+ghost use Rattle.iobuf.specs.Kinds.{run-bytes};
 ghost use Rattle.store.specs.Sizes.{store-size};
 ghost use Rattle.calls.specs.Performed.{handed, left, counted, put};
 use crate::call::Call;
@@ -21,11 +21,11 @@ pub fn perform(
     page: &mut Run,
     out: &mut [u8; STORE_SIZE],
 ) -> Result<usize, Fault>
-    ensures answer { λ r. ⌜ r ≡ counted (handed call (replicate (now (page .entry) .count) (now (page .entry) .byte))) ⌝ }
+    ensures answer { λ r. ⌜ r ≡ counted (handed call (run-bytes (now (page .entry)))) ⌝ }
     ensures within { λ r. ⌜ Cases r (λ n. n ≤ store-size) (λ _. Unit {0}) ⌝ }
-    ensures page { λ _. ⌜ replicate (now (page .exit) .count) (now (page .exit) .byte) ≡ left call (replicate (now (page .entry) .count) (now (page .entry) .byte)) ⌝ }
+    ensures page { λ _. ⌜ run-bytes (now (page .exit)) ≡ left call (run-bytes (now (page .entry))) ⌝ }
     ensures refused { λ r. ⌜ Cases r (λ _. Unit {0}) (λ _. now (page .exit) ≡ now (page .entry)) ⌝ }
-    ensures output { λ _. ⌜ now (out .exit) ≡ put (handed call (replicate (now (page .entry) .count) (now (page .entry) .byte))) (now (out .entry)) ⌝ }
+    ensures output { λ _. ⌜ now (out .exit) ≡ put (handed call (run-bytes (now (page .entry)))) (now (out .entry)) ⌝ }
 {
     match call {
         Call::Run { byte, count } => {

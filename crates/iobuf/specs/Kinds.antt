@@ -1,4 +1,5 @@
 -- The value of each kind of chunk.
+use mathlib.Core.List.{List}
 use Prim.Native.Nat.{ℕ, _+_, _-_}
 use lib.ListN.{replicate}
 use Rattle.lists.specs.Parts.{part}
@@ -8,9 +9,13 @@ use Rattle.iobuf.specs.declared.buf.IoBufMut.{IoBufMut}
 use Rattle.iobuf.specs.declared.run.Run.{Run}
 use Rattle.store.specs.declared.space.Store.{Store}
 
--- a run is its byte, as often as it counts
+-- the bytes of a run: its byte, as often as it counts
+abbrev pub run-bytes : Run → List ℕ
+run-bytes x = replicate (x .count) (x .byte)
+
+-- a run is worth its bytes in whatever store
 abbrev pub run-value : Store → Run → Value
-run-value s x = flat (replicate (x .count) (x .byte))
+run-value s x = flat (run-bytes x)
 
 -- an IoBuf is what the store holds at its place
 abbrev pub buf-value : Store → IoBuf → Value

@@ -1,7 +1,7 @@
 ghost use Prim.Native.Nat.{_+_, _≤_};
 ghost use Rattle.store.specs.Sizes.{store-size};
 
-mod part;
+mod parts;
 pub mod shared;
 pub mod steps;
 pub mod writable;

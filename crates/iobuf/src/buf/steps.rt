@@ -1,29 +1,17 @@
 ghost use mathlib.Core.Path.{_≡_};
-ghost use Prim.Native.Nat.{_+_, _≤_, min};
+ghost use Prim.Native.Nat.{_+_, min};
 ghost use lib.ListN.{length, take};
 ghost use Rattle.std.specs.Results.{Cases};
 ghost use Rattle.lists.specs.Parts.{laid};
 ghost use Rattle.store.specs.Faults.{Short, no-store-room};
-ghost use Rattle.iobuf.specs.Kinds.{span, span-value, fresh, behind, room, grown, sized};
+ghost use Rattle.iobuf.specs.Kinds.{span, fresh, behind, room, grown, sized};
 ghost use Rattle.store.specs.Stretches.{start, free};
-ghost use Rattle.iobuf.specs.Values.{advanced};
-ghost use Rattle.store.specs.declared.space.Store.{Store};
 use super::IoBuf;
 use super::IoBufMut;
 use store::fault::Fault;
 use store::space::Store;
 
 impl IoBufMut {
-    // Drops the first `n` bytes; the writable ones stay where they are.
-    pub(super) fn drop_first(&mut self, n: usize)
-        requires { ⌜ n ≤ now self .len ⌝ }
-        ensures { λ _. ⌜ ((s : Store) → span-value s (span (now (self .exit))) ≡ advanced n (span-value s (span (now (self .entry))))) ⌝ }
-    {
-        self.place += n;
-        self.len -= n;
-        self.capacity -= n;
-    }
-
     // A chunk of the next `c` bytes of the store, none of them readable yet.
     pub fn reserve(store: &mut Store, c: usize) -> Result<IoBufMut, Fault>
         ensures chunk { λ r. ⌜ Cases r (λ x. span x ≡ fresh (start (now (store .entry) .used)) c) (Short c (free (now (store .entry) .used)) (no-store-room c (free (now (store .entry) .used)))) ⌝ }

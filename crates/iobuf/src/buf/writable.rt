@@ -1,6 +1,5 @@
 ghost use Rattle.iobuf.specs.Kinds.{span, span-tail, span-value};
 use super::IoBufMut;
-use super::part::write_first;
 use crate::chunk::Chunk;
 use store::ask;
 use store::fault::Fault;
@@ -23,14 +22,14 @@ pub impl Chunk for IoBufMut as IoBufMutChunk {
     }
 
     fn write_out(&self, store: &Store, n: usize, out: &mut [u8]) -> Result<(), Fault> {
-        ask::bytes(Layer::Chunk, n, self.len)?;
+        self.has(n)?;
         ask::places(Layer::Chunk, n, out.len())?;
-        write_first(store, self.place, self.len, n, out);
+        self.write_first(store, n, out);
         Ok(())
     }
 
     fn advance(&mut self, n: usize) -> Result<(), Fault> {
-        ask::bytes(Layer::Chunk, n, self.len)?;
+        self.has(n)?;
         self.drop_first(n);
         Ok(())
     }

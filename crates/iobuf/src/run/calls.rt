@@ -1,12 +1,9 @@
 ghost use mathlib.Core.Path.{_≡_};
-ghost use Prim.Native.Nat.{_≤_};
-ghost use lib.ListN.{length, replicate};
 ghost use Rattle.std.specs.Results.{Cases};
 ghost use Rattle.store.specs.Faults.{Short, run-too-long};
 ghost use Rattle.iobuf.specs.Kinds.{run-value};
 ghost use Rattle.store.specs.Sizes.{store-size};
-ghost use Rattle.store.specs.declared.space.Store.{Store};
-ghost use Rattle.iobuf.specs.Values.{Written, advanced, first, no-tail};
+ghost use Rattle.iobuf.specs.Values.{no-tail};
 use super::Run;
 use crate::chunk::Chunk;
 use crate::chunk::SharedChunk;
@@ -21,36 +18,6 @@ impl Run {
     {
         ask::run_length(count)?;
         Ok(Run { byte, count })
-    }
-
-    // The first `n` bytes.
-    fn first(self, n: usize) -> Run
-        requires { ⌜ n ≤ self .count ⌝ }
-        ensures { λ r. ⌜ ((s : Store) → run-value s r ≡ first n (run-value s self)) ⌝ }
-    {
-        Run {
-            byte: self.byte,
-            count: n,
-        }
-    }
-
-    // What is left without them.
-    fn rest(self, n: usize) -> Run
-        requires { ⌜ n ≤ self .count ⌝ }
-        ensures { λ r. ⌜ ((s : Store) → run-value s r ≡ advanced n (run-value s self)) ⌝ }
-    {
-        Run {
-            byte: self.byte,
-            count: self.count - n,
-        }
-    }
-
-    fn write_first(self, n: usize, out: &mut [u8])
-        requires within { ⌜ n ≤ self .count ⌝ }
-        requires fits { ⌜ n ≤ length (now out) ⌝ }
-        ensures { λ _. ⌜ Written n (replicate (self .count) (self .byte)) (now (out .entry)) (now (out .exit)) ⌝ }
-    {
-        out[0..n].fill(self.byte);
     }
 }
 
@@ -70,14 +37,14 @@ pub impl Chunk for Run as RunChunk {
     }
 
     fn write_out(&self, _store: &Store, n: usize, out: &mut [u8]) -> Result<(), Fault> {
-        ask::bytes(Layer::Chunk, n, self.count)?;
+        self.has(n)?;
         ask::places(Layer::Chunk, n, out.len())?;
         self.write_first(n, out);
         Ok(())
     }
 
     fn advance(&mut self, n: usize) -> Result<(), Fault> {
-        ask::bytes(Layer::Chunk, n, self.count)?;
+        self.has(n)?;
         *self = self.rest(n);
         Ok(())
     }
@@ -89,7 +56,7 @@ pub impl Chunk for Run as RunChunk {
 
 pub impl SharedChunk for Run as RunShared {
     fn cut(&mut self, n: usize) -> Result<Run, Fault> {
-        ask::bytes(Layer::Chunk, n, self.count)?;
+        self.has(n)?;
         let whole = *self;
         *self = whole.rest(n);
         Ok(whole.first(n))

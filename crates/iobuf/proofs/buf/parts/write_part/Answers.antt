@@ -5,7 +5,7 @@ use Rattle.std.proofs.shelf.Lists.{length-take-le}
 use Rattle.lists.specs.Parts.{part}
 use Rattle.lists.proofs.Parts.{length-part, take-part}
 use Rattle.iobuf.proofs.Writes.{written, shown}
-use Rattle.iobuf.proofs.buf.part.write_first.Needs as need
+use Rattle.iobuf.proofs.buf.parts.write_part.Needs as need
 
 pub copy-from-slice-requires : need.copy-from-slice-requires
 copy-from-slice-requires c κs =
