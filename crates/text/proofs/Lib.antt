@@ -1,4 +1,2 @@
 pub mod Fronts
 pub mod Decimal
-pub mod Printed
-pub mod Spaced

@@ -2,5 +2,3 @@ pub mod Words
 pub mod Classes
 pub mod Numbers
 pub mod Lines
-pub mod Hex
-pub mod Reports

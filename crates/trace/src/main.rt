@@ -3,16 +3,16 @@ use calls::perform::perform;
 use iobuf::chunk::Chunk;
 use iobuf::run::Run;
 use iobuf::run::calls::RunChunk;
+use report::outcome::Accepted;
+use report::outcome::AcceptedDisplay;
+use report::outcome::Holds;
+use report::outcome::HoldsDisplay;
 use std::error::AnyError;
 use store::fault::FaultDisplay;
 use store::sizes::STORE_SIZE;
 use store::space::Store;
 use text::lines::UnreadableDisplay;
 use text::lines::read_call;
-use text::report::Accepted;
-use text::report::AcceptedDisplay;
-use text::report::Holds;
-use text::report::HoldsDisplay;
 
 // Performs the call of one line, if it says one, and prints the line, the outcome and what the chunk then holds.
 fn trace_line(

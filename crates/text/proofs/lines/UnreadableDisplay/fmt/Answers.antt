@@ -1,4 +1,4 @@
-use Rattle.text.proofs.Printed.{prints-is}
+use Rattle.report.proofs.Printed.{prints-is}
 use Rattle.text.proofs.lines.UnreadableDisplay.fmt.Needs as need
 
 pub returns : need.returns

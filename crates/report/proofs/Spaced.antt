@@ -6,7 +6,7 @@ use native.Mathlib.Omega.{arith}
 use lib.ListN.{length, take, drop, getD}
 use Rattle.std.specs.Joined.{joined}
 use Rattle.std.proofs.shelf.Lists.{joined-more, take-more, take-all}
-use Rattle.text.specs.Hex.{pair, hex-of}
+use Rattle.report.specs.Hex.{pair, hex-of}
 
 -- a byte behind another
 abbrev pub next : ℕ → List ℕ

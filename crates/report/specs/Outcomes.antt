@@ -4,7 +4,7 @@ use Prim.Native.Nat.{ℕ}
 use lib.Chars.{codes}
 use lib.ListN.{length}
 use Rattle.std.specs.Written.{decimal}
-use Rattle.text.specs.Hex.{hex-of}
+use Rattle.report.specs.Hex.{hex-of}
 
 -- bytes in brackets
 abbrev pub bracketed : List ℕ → List ℕ

@@ -1,8 +1,8 @@
 use native.Mathlib.Omega.{arith}
 use Rattle.std.specs.declared.result.Result.the-variants.{Ok}
 use Rattle.std.proofs.shelf.Ways.{tells}
-use Rattle.text.proofs.Printed.{prints-byte, prints-more}
-use Rattle.text.proofs.hex.write_byte.Needs as need
+use Rattle.report.proofs.Printed.{prints-byte, prints-more}
+use Rattle.report.proofs.hex.write_byte.Needs as need
 
 pub returns : need.returns
 returns g c =

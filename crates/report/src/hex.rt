@@ -4,7 +4,7 @@ ghost use Prim.Native.Nat.{_<_};
 ghost use Rattle.std.specs.Text.{digitChar};
 ghost use Rattle.std.specs.Written.{Prints};
 ghost use Rattle.std.specs.declared.option.Option.the-variants.{Some};
-ghost use Rattle.text.specs.Hex.{pair, hex-of};
+ghost use Rattle.report.specs.Hex.{pair, hex-of};
 use std::fmt;
 
 // Bytes that are shown as `00 ff 0a`.

@@ -1,7 +1,7 @@
 // What a call did, in words.
 ghost use mathlib.Core.Path.{_≡_};
 ghost use Rattle.std.specs.declared.option.Option.the-variants.{Some};
-ghost use Rattle.text.specs.Reports.{accepted-words, holds-words};
+ghost use Rattle.report.specs.Outcomes.{accepted-words, holds-words};
 use crate::hex::Hex;
 use crate::hex::HexDisplay;
 use std::fmt;

@@ -2,9 +2,9 @@ use mathlib.Core.Path.{refl}
 use native.Mathlib.Omega.{arith}
 use borrow.Author.Needs.{needs}
 use Rattle.std.specs.declared.result.Result.the-variants.{Ok}
-use Rattle.text.proofs.Printed.{prints-is, prints-byte, prints-more}
-use Rattle.text.proofs.Spaced.{next-more, next-all}
-use Rattle.text.proofs.hex.HexDisplay.fmt.Needs as need
+use Rattle.report.proofs.Printed.{prints-is, prints-byte, prints-more}
+use Rattle.report.proofs.Spaced.{next-more, next-all}
+use Rattle.report.proofs.hex.HexDisplay.fmt.Needs as need
 
 pub loop-b-again : need.loop-b-again
 loop-b-again g c =
