@@ -1,1 +1,4 @@
-pub mod Joined
+pub mod Fits
+pub mod Sums
+pub mod Rounds
+pub mod Copies

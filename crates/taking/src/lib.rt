@@ -1,1 +1,4 @@
+pub mod advance;
+pub mod copy;
+mod laws;
 pub mod totals;

@@ -1,48 +1,62 @@
-ghost use mathlib.Core.List.{map};
 ghost use mathlib.Core.Path.{_≡_};
-ghost use Prim.Native.Nat.{_≤_};
 ghost use lib.ListN.{length};
-ghost use Rattle.store.specs.Sizes.{chunk-limit};
 ghost use Rattle.store.specs.declared.space.Store.{Store};
-ghost use Rattle.lists.specs.Sums.{sum-by};
-ghost use Rattle.taking.specs.Totals.{joined};
+ghost use Rattle.ring.specs.Model.{Sound, items};
+ghost use Rattle.rules.specs.Chunks.{remaining, capacity, writable};
+ghost use Rattle.taking.specs.Rings.{values, bytes-in};
 use iobuf::chunk::Chunk;
+use ring::Ring;
 
-// How many bytes the chunks have in all.
-pub fn total<K: Chunk>(chunks: &[K]) -> usize
-    requires { ⌜ length (now chunks) ≤ chunk-limit ⌝ }
-    ensures sizes { λ r. ⌜ r ≡ sum-by size (now (chunks .entry)) ⌝ }
-    ensures bytes { λ r. ⌜ ((s : Store) → r ≡ length (joined (map (value s) (now (chunks .entry))))) ⌝ }
+// How many bytes can be read.
+pub fn remaining<K: Chunk>(ring: &Ring<'_, K>) -> usize
+    requires { ⌜ Sound (now ring) ⌝ }
+    ensures sizes { λ r. ⌜ r ≡ bytes-in K·Chunk (now (ring .entry)) ⌝ }
+    ensures bytes { λ r. ⌜ ((s : Store) → r ≡ remaining (values K·Chunk s (now (ring .entry)))) ⌝ }
 {
-    let mut sum = 0;
-    for c in chunks {
-        sum += c.remaining();
+    let mut bytes = 0;
+    for i in 0..chunk_count(ring) {
+        bytes += ring.at(i).remaining();
     }
-    sum
+    bytes
 }
 
-#[cfg(test)]
-mod tests {
-    use super::total;
-    use iobuf::buf::IoBufMut;
-    use iobuf::buf::shared::IoBufChunk;
-    use iobuf::buf::writable::IoBufMutChunk;
-    use iobuf::run::Run;
-    use iobuf::run::calls::RunChunk;
-    use std::test::*;
-    use store::fault::FaultDebug;
-    use store::space::Store;
+// The same by its other name.
+pub fn len<K: Chunk>(ring: &Ring<'_, K>) -> usize
+    requires { ⌜ Sound (now ring) ⌝ }
+    ensures { λ r. ⌜ ((s : Store) → r ≡ remaining (values K·Chunk s (now (ring .entry)))) ⌝ }
+{
+    remaining(ring)
+}
 
-    // One function adds up chunks of each kind.
-    #[test]
-    fn adds_up_every_kind() -> Result<(), Fail> {
-        let mut store = Store::new();
-        check_eq(total(&[Run::new(0, 16)?, Run::new(7, 5)?]), 21)?;
-        let mut page = IoBufMut::reserve(&mut store, 8)?;
-        check_eq(page.fill(&mut store, b"stops"), 5)?;
-        let pages = [page, IoBufMut::reserve(&mut store, 3)?];
-        check_eq(total(&pages), 5)?;
-        let [page, rest] = pages;
-        check_eq(total(&[page.freeze(), rest.freeze()]), 5)
+// How many chunks there are.
+pub fn chunk_count<K: Chunk>(ring: &Ring<'_, K>) -> usize
+    requires { ⌜ Sound (now ring) ⌝ }
+    ensures { λ r. ⌜ r ≡ length (items (now (ring .entry))) ⌝ }
+{
+    ring.len()
+}
+
+// How many bytes the chunks could hold.
+pub fn capacity<K: Chunk>(ring: &Ring<'_, K>) -> usize
+    requires { ⌜ Sound (now ring) ⌝ }
+    ensures { λ r. ⌜ ((s : Store) → r ≡ capacity (values K·Chunk s (now (ring .entry)))) ⌝ }
+{
+    let mut places = 0;
+    for i in 0..chunk_count(ring) {
+        places += ring.at(i).capacity();
     }
+    places
+}
+
+// How many bytes can be written.
+pub fn remaining_mut<K: Chunk>(ring: &Ring<'_, K>) -> usize
+    requires { ⌜ Sound (now ring) ⌝ }
+    ensures { λ r. ⌜ ((s : Store) → r ≡ writable (values K·Chunk s (now (ring .entry)))) ⌝ }
+{
+    let mut tails = 0;
+    for i in 0..chunk_count(ring) {
+        let chunk = ring.at(i);
+        tails += chunk.capacity() - chunk.remaining();
+    }
+    tails
 }

@@ -1,0 +1,3 @@
+// The ring by example, at each kind of chunk.
+#[cfg(test)]
+mod tests;

@@ -1,0 +1,4 @@
+pub mod Chunks
+pub mod Taking
+pub mod Laws
+pub mod Documented
