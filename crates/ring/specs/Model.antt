@@ -2,7 +2,7 @@
 use mathlib.Core.Path.{_≡_}
 use mathlib.Core.List.{List}
 use Prim.Native.Nat.{ℕ, _≤_, _-_}
-use lib.ListN.{length}
+use lib.ListN.{length, set}
 use denote.Ref.{now}
 use Rattle.lists.specs.Rings.{turned}
 use Rattle.store.specs.Sizes.{chunk-limit}
@@ -23,3 +23,7 @@ items r = turned (now (r .slots)) (r .head) (r .len)
 -- how many elements it can hold
 abbrev pub limit : {T : Type 0} → Ring T → ℕ
 limit r = length (now (r .slots))
+
+-- its slots, with x in the slot of the first element
+abbrev pub first-slot : {T : Type 0} → Ring T → T → List T
+first-slot r x = set (now (r .slots)) (r .head) x

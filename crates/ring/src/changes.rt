@@ -1,8 +1,8 @@
 ghost use mathlib.Core.Path.{_≡_};
 ghost use mathlib.Core.List.{[], _∷_, _++_};
-ghost use Prim.Native.Nat.{_<_};
+ghost use Prim.Native.Nat.{ℕ, _<_};
 ghost use lib.ListN.{getD, length, set};
-ghost use Rattle.ring.specs.Model.{Sound, items, limit};
+ghost use Rattle.ring.specs.Model.{Sound, first-slot, items, limit};
 use crate::Blanks;
 use crate::Ring;
 use crate::steps;
@@ -14,6 +14,7 @@ impl<'a, T> Ring<'a, T> {
         requires sound { ⌜ Sound (now self) ⌝ }
         requires some { ⌜ 0 < length (items (now self)) ⌝ }
         ensures items { λ r. ⌜ items (now (self .entry)) ≡ r ∷ items (now (self .exit)) ⌝ }
+        ensures slot { λ _. ⌜ now (now (self .exit) .slots) ≡ first-slot (now (self .entry)) blank ⌝ }
         ensures limit { λ _. ⌜ limit (now (self .exit)) ≡ limit (now (self .entry)) ⌝ }
         ensures sound { λ _. ⌜ Sound (now (self .exit)) ⌝ }
     {
@@ -66,15 +67,16 @@ impl<'a, T: Drop> Ring<'a, T> {
         self.len += 1;
     }
 
-    // Empties the ring, and leaves a blank in each slot that held an element.
+    // Empties the ring, and leaves a blank in each of its slots.
     pub fn clear<B: Blanks<T>>(&mut self)
         requires { ⌜ Sound (now self) ⌝ }
+        ensures blanks { λ _. ⌜ ((k : ℕ) (d : T) → k < limit (now (self .entry)) → B·Blanks .empty (getD (now (now (self .exit) .slots)) k d)) ⌝ }
         ensures items { λ _. ⌜ items (now (self .exit)) ≡ [] ⌝ }
         ensures limit { λ _. ⌜ limit (now (self .exit)) ≡ limit (now (self .entry)) ⌝ }
         ensures sound { λ _. ⌜ Sound (now (self .exit)) ⌝ }
     {
-        while self.len > 0 {
-            self.pop_front(B::blank());
-        }
+        steps::blank_all::<T, B>(self.slots);
+        self.head = 0;
+        self.len = 0;
     }
 }

@@ -21,7 +21,11 @@ pub struct Ring<'a, T> {
 // Gives values for slots that hold no element. It is no trait of `T` itself, so that a crate can give blanks of types
 // that it does not declare.
 pub trait Blanks<T> {
-    fn blank() -> T;
+    // which values are blank
+    ghost empty: { T → Type 0 };
+
+    fn blank() -> T
+        ensures { λ r. ⌜ empty r ⌝ };
 }
 
 impl<'a, T> Ring<'a, T> {

@@ -1,10 +1,12 @@
 // The steps of a ring, on a slice of slots and plain numbers.
-ghost use Prim.Native.Nat.{_<_, _≤_};
-ghost use lib.ListN.{length};
+ghost use mathlib.Core.Path.{_≡_};
+ghost use Prim.Native.Nat.{ℕ, _<_, _≤_};
+ghost use lib.ListN.{getD, length, set};
 ghost use Rattle.lists.specs.Rings.{Place};
 ghost use Rattle.ring.specs.Model.{Lies};
 ghost use Rattle.ring.specs.Steps.{Before, Behind, Popped, Read, Replaced};
 ghost use Rattle.store.specs.Sizes.{chunk-limit};
+use crate::Blanks;
 
 // The slot `i` places on from `head`, around the end of `limit` slots.
 fn place(limit: usize, head: usize, i: usize) -> usize
@@ -58,8 +60,18 @@ pub(super) fn put_front<T: Drop>(slots: &mut [T], head: usize, x: T) -> usize
 // Takes the first element out of the slot `head`, leaves `blank` there, and says in which slot the next one lies.
 pub(super) fn take_front<T>(slots: &mut [T], head: usize, blank: T) -> (T, usize)
     requires { ⌜ length (now slots) ≤ chunk-limit ⌝ ∗ ⌜ head < length (now slots) ⌝ }
-    ensures { λ r. ⌜ Popped (now (slots .entry)) head (r .0) (now (slots .exit)) (r .1) ⌝ }
+    ensures popped { λ r. ⌜ Popped (now (slots .entry)) head (r .0) (now (slots .exit)) (r .1) ⌝ }
+    ensures slot { λ _. ⌜ now (slots .exit) ≡ set (now (slots .entry)) head blank ⌝ }
 {
     let next = place(slots.len(), head, 1);
     (std::mem::replace(&mut slots[head], blank), next)
+}
+
+// Writes a blank into each slot.
+pub(super) fn blank_all<T: Drop, B: Blanks<T>>(slots: &mut [T])
+    ensures { λ _. ⌜ ((k : ℕ) (d : T) → k < length (now (slots .exit)) → B·Blanks .empty (getD (now (slots .exit)) k d)) ⌝ }
+{
+    for slot in slots.iter_mut() {
+        *slot = B::blank();
+    }
 }

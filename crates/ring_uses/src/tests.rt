@@ -1,6 +1,8 @@
 ghost use mathlib.Core.Path.{_≡_};
 ghost use mathlib.Core.List.{[], _∷_};
 ghost use lib.ListN.{length};
+ghost use Rattle.store.specs.declared.space.Store.{Store};
+ghost use Rattle.iobuf.specs.Values.{flat};
 ghost use Rattle.ring.specs.Model.{Sound, items};
 use iobuf::buf::IoBuf;
 use iobuf::buf::IoBufMut;
@@ -21,6 +23,8 @@ use store::space::Store;
 struct OfChunks;
 
 impl<K: Chunk> Blanks<K> for OfChunks as ChunkBlanks {
+    ghost empty = { λ x. (s : Store) → K·Chunk .value s x ≡ flat [] };
+
     fn blank() -> K {
         K::blank()
     }
