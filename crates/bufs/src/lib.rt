@@ -1,3 +1,5 @@
+#![tactic(auto)]
+
 ghost use Rattle.ring.specs.Model.{Sound};
 
 use ring::Ring;

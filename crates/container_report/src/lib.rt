@@ -1,3 +1,5 @@
+#![tactic(auto)]
+
 pub mod border;
 pub mod outcome;
 pub mod state;

@@ -1,2 +1,4 @@
+#![tactic(auto)]
+
 pub mod chunks;
 pub mod lines;

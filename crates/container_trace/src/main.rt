@@ -1,3 +1,5 @@
+#![tactic(auto)]
+
 // Performs the calls that standard input says, one a line, on one container of runs, and shows what each did.
 use anyhow::anyhow;
 use bufs::IoBufs;

@@ -1,3 +1,5 @@
+#![tactic(auto)]
+
 // The forms of taking on lists of chunks, by example. A list is written r/c: readable bytes over capacity.
 ghost use Rattle.ring.specs.Model.{Sound};
 

@@ -1,3 +1,5 @@
+#![tactic(auto)]
+
 pub mod buf;
 pub mod chunk;
 pub mod run;

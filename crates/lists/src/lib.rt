@@ -1,1 +1,3 @@
+#![tactic(auto)]
+
 // Definitions and laws on lists; no code.

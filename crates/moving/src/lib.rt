@@ -1,2 +1,4 @@
+#![tactic(auto)]
+
 pub mod putting;
 pub mod splitting;

@@ -21,7 +21,7 @@ fn glyph(d: u8) -> char
 
 // Both digits are written, the high one first.
 fn write_byte<W: fmt::Write>(f: &mut fmt::Formatter<W>, b: u8) -> fmt::Result
-    ensures { WritesOnOk write_str_gives f.old result (pair b) f.new }
+    ensures { WritesOnOk W.write_str_gives f.old result (pair b) f.new }
 {
     f.write_char(glyph(b / 16))?;
     f.write_char(glyph(b % 16))

@@ -1,2 +1,4 @@
+#![tactic(auto)]
+
 pub mod hex;
 pub mod outcome;

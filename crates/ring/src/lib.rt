@@ -1,3 +1,5 @@
+#![tactic(auto)]
+
 ghost use Rattle.std.specs.Prelude.{◌≡◌, ◌<◌, min, [], length, slice_index_or};
 ghost use Rattle.ring.specs.Model.{Sound, items, limit};
 ghost use Rattle.store.specs.Sizes.{chunk_limit};

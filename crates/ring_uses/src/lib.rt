@@ -1,3 +1,5 @@
+#![tactic(auto)]
+
 // The ring by example, at each kind of chunk.
 #[cfg(test)]
 mod tests;

@@ -1,3 +1,5 @@
+#![tactic(auto)]
+
 pub mod ask;
 pub mod fault;
 pub mod sizes;

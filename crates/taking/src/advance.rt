@@ -13,7 +13,7 @@ use store::fault::{Fault, Layer};
 
 // Is a chunk kept? It is while it has bytes, or a tail behind them.
 pub fn kept<K: Chunk>(chunk: &K) -> bool
-    ensures { result ≡ nat_lt 0 (size chunk.now + (tail chunk.now).count) }
+    ensures { result ≡ nat_lt 0 (K.Chunk.size chunk.now + (K.Chunk.tail chunk.now).count) }
 {
     chunk.capacity() > 0
 }

@@ -1,3 +1,5 @@
+#![tactic(auto)]
+
 pub mod advance;
 pub mod copy;
 mod laws;

@@ -18,9 +18,9 @@ impl Chunk for IoBuf {
 
     ghost sized = { λ s x. length_part x.place x.len s.bytes (omega arith) };
 
-    ghost tailed = { first_of (Prim.search rules, Prim.grind (arith, Self.row.coded.inj)) };
+    ghost tailed = { Prim.search rules };
 
-    ghost bounded = { first_of (Prim.search rules, Prim.grind (arith, Self.row.coded.inj)) };
+    ghost bounded = { Prim.search rules };
 
     fn remaining(&self) -> usize {
         self.len
@@ -49,7 +49,7 @@ impl Chunk for IoBuf {
 }
 
 impl SharedChunk for IoBuf {
-    ghost tailless = { first_of (Prim.search rules, Prim.grind (arith, Self.row.coded.inj)) };
+    ghost tailless = { Prim.search rules };
 
     fn cut(&mut self, n: usize) -> Result<IoBuf, Fault> {
         self.has(n)?;

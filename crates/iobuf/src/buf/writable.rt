@@ -17,9 +17,9 @@ impl Chunk for IoBufMut {
 
     ghost sized = { λ s x. length_part x.place x.len s.bytes (omega arith) };
 
-    ghost tailed = { first_of (Prim.search rules, Prim.grind (arith, Self.row.coded.inj)) };
+    ghost tailed = { Prim.search rules };
 
-    ghost bounded = { first_of (Prim.search rules, Prim.grind (arith, Self.row.coded.inj)) };
+    ghost bounded = { Prim.search rules };
 
     fn remaining(&self) -> usize {
         self.len

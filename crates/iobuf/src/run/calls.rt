@@ -30,9 +30,9 @@ impl Chunk for Run {
 
     ghost sized = { λ s x. length-replicate x.count x.byte };
 
-    ghost tailed = { first_of (Prim.search rules, Prim.grind (arith, Self.row.coded.inj)) };
+    ghost tailed = { Prim.search rules };
 
-    ghost bounded = { first_of (Prim.search rules, Prim.grind (arith, Self.row.coded.inj)) };
+    ghost bounded = { Prim.search rules };
 
     fn remaining(&self) -> usize {
         self.count
@@ -61,7 +61,7 @@ impl Chunk for Run {
 }
 
 impl SharedChunk for Run {
-    ghost tailless = { first_of (Prim.search rules, Prim.grind (arith, Self.row.coded.inj)) };
+    ghost tailless = { Prim.search rules };
 
     fn cut(&mut self, n: usize) -> Result<Run, Fault> {
         self.has(n)?;

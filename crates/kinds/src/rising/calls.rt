@@ -30,9 +30,9 @@ impl Chunk for Rising {
 
     ghost sized = { λ s x. length_rising x.start x.count };
 
-    ghost tailed = { first_of (Prim.search rules, Prim.grind (arith, Self.row.coded.inj)) };
+    ghost tailed = { Prim.search rules };
 
-    ghost bounded = { first_of (Prim.search rules, Prim.grind (arith, Self.row.coded.inj)) };
+    ghost bounded = { Prim.search rules };
 
     fn remaining(&self) -> usize {
         self.count
@@ -61,7 +61,7 @@ impl Chunk for Rising {
 }
 
 impl SharedChunk for Rising {
-    ghost tailless = { first_of (Prim.search rules, Prim.grind (arith, Self.row.coded.inj)) };
+    ghost tailless = { Prim.search rules };
 
     fn cut(&mut self, n: usize) -> Result<Rising, Fault> {
         self.has(n)?;

@@ -12,11 +12,11 @@ none Accepted out ne = refl
 none (Copied n) out ne = absurd (ne n refl)
 none (Refused f) out ne = refl
 
-pub returns-in-default : goal.returns-in-default
-returns-in-default c =
+pub returns-in_default : goal.returns-in_default
+returns-in_default c =
     let log = c.args.log.now in
     let at = c.args.at in
-    let e = none c.args.answer c.args.out.now c.in-default.not-Copied in
+    let e = none c.args.answer c.args.out.now c.in_default.not-Copied in
     record { log = sym (ap (λ s. poured at s log) e ∙ poured_none at log); at = omega (arith, ap length e, c.requires.within) }
 
 pub returns : goal.returns

@@ -10,10 +10,10 @@ use Rattle.container_calls.specs.Series.{copied_bytes}
 use Rattle.container_calls.proofs.Listed.{container, handed_on, copied_within}
 use Rattle.container_calls.proofs.series.turn.Goals as goal
 
-pub log-copied-at-requires : goal.log-copied-at-requires
-log-copied-at-requires g c =
+pub log_copied-at-requires : goal.log_copied-at-requires
+log_copied-at-requires g c =
     let log = c.args.log.now in
-    let share = c.log-share-at in
+    let share = c.log_share-at in
     let new = c.new-target in
     let made = c.perform-answer in
     let long = ap length share.ensures.log ∙ length_poured c.args.at _ log c.requires in
@@ -41,11 +41,11 @@ returns g c =
     let bs = joined (values k m u) in
     let cs = copied_bytes r is in
     let size : bytes_in k u ≡ length bs = sum_sizes (k.value m) k.size (g.met.K.Chunk.sized m) (items u) in
-    let here : c.log-share-at.result ≡ min (length log) (at + length bs) = omega (arith, c.log-share-at.ensures.at) in
-    let long = ap length c.log-share-at.ensures.log ∙ length_poured at bs log c.requires in
+    let here : c.log_share-at.result ≡ min (length log) (at + length bs) = omega (arith, c.log_share-at.ensures.at) in
+    let long = ap length c.log_share-at.ensures.log ∙ length_poured at bs log c.requires in
     let out = handed_on k c.args.call m r b d t u was is most done c.new-target.ensures.chunks c.new-target.ensures.limit in
     record {
       container = container k c.args.call m r b d t u was is most done c.new-target.ensures.chunks c.new-target.ensures.limit;
-      log = c.log-copied-at.ensures.log ∙ ap (poured c.log-share-at.result cs) c.log-share-at.ensures.log ∙ poured_more at c.log-share-at.result bs cs log c.requires here ∙ ap (λ s. poured at s log) out;
-      at = omega (arith, c.log-copied-at.ensures.at, long, ap length out, length-append bs cs);
+      log = c.log_copied-at.ensures.log ∙ ap (poured c.log_share-at.result cs) c.log_share-at.ensures.log ∙ poured_more at c.log_share-at.result bs cs log c.requires here ∙ ap (λ s. poured at s log) out;
+      at = omega (arith, c.log_copied-at.ensures.at, long, ap length out, length-append bs cs);
     }

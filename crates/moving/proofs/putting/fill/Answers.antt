@@ -10,8 +10,8 @@ loop-chunk-init g c =
     let q = kept_of g.K.Chunk in
     (ap (λ ys. ys ++ filter q c.args.given.now) (nil_from_length (items c.args.ring.now) (omega (arith, c.requires.empty))), search rules, c.requires.sound)
 
-pub put-kept-requires : goal.put-kept-requires
-put-kept-requires g c =
+pub put_kept-requires : goal.put_kept-requires
+put_kept-requires g c =
     let q = kept_of g.K.Chunk in
     let xs = c.args.given.now in
     let i = c.loop-chunk.chunk-index in
@@ -30,7 +30,7 @@ loop-chunk-preserved g c =
     let i = c.loop-chunk.chunk-index in
     let x = c.chunk-item.result in
     let r = c.loop-chunk.ring in
-    let placed = c.put-kept.ensures in (
+    let placed = c.put_kept.ensures in (
       ap (λ ys. ys ++ filter q (drop (i + 1) xs)) placed.items ∙ kept_put q xs i x c.loop-chunk-test.true c.chunk-item.is (items r) ∙ c.loop-chunk.invariant.0,
       placed.limit ∙ c.loop-chunk.invariant.1,
       placed.sound,

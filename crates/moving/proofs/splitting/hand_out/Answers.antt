@@ -13,8 +13,8 @@ use Rattle.moving.proofs.splitting.hand_out.Goals as goal
 at_least : (at left : ℕ) → at ≤ with_piece (at, left)
 at_least at left = cond_both (ltb 0 left) (at + 1) at (λ n. at ≤ n) (λ _. omega arith) (λ _. omega arith)
 
-pub hand-over-requires : goal.hand-over-requires
-hand-over-requires g c =
+pub hand_over-requires : goal.hand_over-requires
+hand_over-requires g c =
     let size = g.K.Chunk.size in
     let xs = items c.args.from.now in
     let e = ap (λ (r : ℕ × ℕ). r.0) c.requires.found in
@@ -24,28 +24,28 @@ hand-over-requires g c =
       fits = omega (arith, c.requires.empty, c.requires.fits, at_least c.args.at c.args.left);
     }
 
-pub hand-piece-requires : goal.hand-piece-requires
-hand-piece-requires g c =
+pub hand_piece-requires : goal.hand_piece-requires
+hand_piece-requires g c =
     let size = g.K.Chunk.size in
     let xs = items c.args.from.now in
     let n = c.args.n in
     let at = c.args.at in
     let left = c.args.left in
     let found = c.requires.found in
-    let gone = c.hand-over.ensures.leaves in
+    let gone = c.hand_over.ensures.leaves in
     let P : ℕ × ℕ → Type 0 = λ r. Ends size r.1 (drop r.0 xs) in
     let Q : ℕ × ℕ → Type 0 = λ r. r.1 ≤ sum_by size (drop r.0 xs) in
     let ends : Ends size left (drop at xs) = subst P found (cut_ends size n xs) in
     let there : left ≤ sum_by size (drop at xs) = subst Q found (cut_left size n xs c.requires.within) in
     let some : 0 < length (drop at xs) = sum_some size (drop at xs) (omega (arith, c.if-left-gt0.true)) in
-    let whole = ap length c.hand-over.ensures.gives ∙ length-append (items c.args.to.now) (take at xs) in
+    let whole = ap length c.hand_over.ensures.gives ∙ length-append (items c.args.to.now) (take at xs) in
     let piece = cond-true (ltb 0 left) (at + 1) at (lt-ltb 0 left c.if-left-gt0.true) in
     record {
-      sound = c.hand-over.ensures.sound;
+      sound = c.hand_over.ensures.sound;
       some = c.if-left-gt0.true;
       first = omega (arith, ap length gone);
       longer = subst (Ends size left) (sym gone) ends;
-      fits = omega (arith, whole, length-take at xs, c.requires.empty, c.requires.fits, piece, c.hand-over.ensures.limits.1);
+      fits = omega (arith, whole, length-take at xs, c.requires.empty, c.requires.fits, piece, c.hand_over.ensures.limits.1);
     }
 
 -- the chunks by their values, when `at` of them went whole and `left` bytes are still to take
@@ -65,23 +65,23 @@ returns-then-left-gt0 g c =
     let k = g.K.Chunk in
     let xs = items c.args.from.now in
     let ts = items c.args.to.now in
-    let us = items c.hand-over.new.to in
+    let us = items c.hand_over.new.to in
     let n = c.args.n in
     let left = c.args.left in
-    let gone = c.hand-over.ensures.leaves in
-    let piece = c.hand-piece.ensures in
+    let gone = c.hand_over.ensures.leaves in
+    let piece = c.hand_piece.ensures in
     record {
       target = λ s.
           let v = k.value s in
           piece.target s ∙ ap (λ zs. map v us ++ fronts left (map v zs)) gone
-          ∙ given k.size v (g.met.K.Chunk.sized s) n c.args.at left xs c.requires.found ts us c.hand-over.ensures.gives;
-      target_limit = piece.target_limit ∙ c.hand-over.ensures.limits.1;
+          ∙ given k.size v (g.met.K.Chunk.sized s) n c.args.at left xs c.requires.found ts us c.hand_over.ensures.gives;
+      target_limit = piece.target_limit ∙ c.hand_over.ensures.limits.1;
       target_sound = piece.target_sound;
       rest = record {
         leaves = λ s.
             let v = k.value s in
             piece.rest.leaves s ∙ ap (λ zs. rests left (map v zs)) gone ∙ stay k.size v (g.met.K.Chunk.sized s) n c.args.at left xs c.requires.found;
-        limit = piece.rest.limit ∙ c.hand-over.ensures.limits.0;
+        limit = piece.rest.limit ∙ c.hand_over.ensures.limits.0;
         sound = piece.rest.sound;
       };
     }
@@ -92,11 +92,11 @@ returns-else-left-gt0 g c =
     let size = k.size in
     let xs = items c.args.from.now in
     let ts = items c.args.to.now in
-    let us = items c.hand-over.new.to in
+    let us = items c.hand_over.new.to in
     let n = c.args.n in
     let at = c.args.at in
     let left = c.args.left in
-    let gone = c.hand-over.ensures.leaves in
+    let gone = c.hand_over.ensures.leaves in
     let z : left ≡ 0 = omega (arith, c.if-left-gt0.false) in
     let P : ℕ × ℕ → Type 0 = λ r. Ends size r.1 (drop r.0 xs) in
     let Q : ℕ → Type 0 = λ i. Ends size i (drop at xs) in
@@ -105,15 +105,15 @@ returns-else-left-gt0 g c =
       target = λ s.
           let v = k.value s in
           let none : fronts left (map v (drop at xs)) ≡ [] = ap (λ i. fronts i (map v (drop at xs))) z ∙ fronts_whole size v (g.met.K.Chunk.sized s) (drop at xs) ends in
-          sym (append-nil (map v us)) ∙ ap (λ zs. map v us ++ zs) (sym none) ∙ given size v (g.met.K.Chunk.sized s) n at left xs c.requires.found ts us c.hand-over.ensures.gives;
-      target_limit = c.hand-over.ensures.limits.1;
-      target_sound = c.hand-over.ensures.sound.1;
+          sym (append-nil (map v us)) ∙ ap (λ zs. map v us ++ zs) (sym none) ∙ given size v (g.met.K.Chunk.sized s) n at left xs c.requires.found ts us c.hand_over.ensures.gives;
+      target_limit = c.hand_over.ensures.limits.1;
+      target_sound = c.hand_over.ensures.sound.1;
       rest = record {
         leaves = λ s.
             let v = k.value s in
             let sized = g.met.K.Chunk.sized s in
             ap (map v) gone ∙ sym (rests_whole size v sized (drop at xs) ends) ∙ ap (λ i. rests i (map v (drop at xs))) (sym z) ∙ stay size v sized n at left xs c.requires.found;
-        limit = c.hand-over.ensures.limits.0;
-        sound = c.hand-over.ensures.sound.0;
+        limit = c.hand_over.ensures.limits.0;
+        sound = c.hand_over.ensures.sound.0;
       };
     }

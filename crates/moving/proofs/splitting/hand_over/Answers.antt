@@ -8,17 +8,17 @@ loop-i-preserved g c =
     let m = c.args.count - c.loop-i.i in
     let n = c.args.count - (c.loop-i.i + 1) in
     let xs = items c.loop-i.from in
-    let ys = items c.pop-front-chunk.new.self in
-    let x = c.pop-front-chunk.result in
-    let f = c.pop-front-chunk.ensures.items in
+    let ys = items c.pop_front-chunk.new.self in
+    let x = c.pop_front-chunk.result in
+    let f = c.pop_front-chunk.ensures.items in
     let e : m ≡ n + 1 = omega arith in
     let long = ap length f in
-    let more = ap length c.push-back.ensures.items ∙ length-append (items c.loop-i.to) _ in (
-      one_given m n xs ys x e f (items c.loop-i.to) (items c.push-back.new.self) c.push-back.ensures.items ∙ c.loop-i.invariant.0,
+    let more = ap length c.push_back.ensures.items ∙ length-append (items c.loop-i.to) _ in (
+      one_given m n xs ys x e f (items c.loop-i.to) (items c.push_back.new.self) c.push_back.ensures.items ∙ c.loop-i.invariant.0,
       one_gone m n xs ys x e f ∙ c.loop-i.invariant.1,
       omega (arith, long, c.loop-i.invariant.2),
-      omega (arith, more, c.loop-i.invariant.3, c.push-back.ensures.limit),
-      (c.pop-front-chunk.ensures.limit ∙ c.loop-i.invariant.4.0, c.push-back.ensures.limit ∙ c.loop-i.invariant.4.1),
-      c.pop-front-chunk.ensures.sound,
-      c.push-back.ensures.sound,
+      omega (arith, more, c.loop-i.invariant.3, c.push_back.ensures.limit),
+      (c.pop_front-chunk.ensures.limit ∙ c.loop-i.invariant.4.0, c.push_back.ensures.limit ∙ c.loop-i.invariant.4.1),
+      c.pop_front-chunk.ensures.sound,
+      c.push_back.ensures.sound,
     )

@@ -10,9 +10,9 @@ pub returns : goal.returns
 returns g c =
     let k = g.K.Chunk in
     let n = c.args.n in
-    let x = c.pop-front-chunk.result in
-    let ys = items c.pop-front-chunk.new.self in
-    let is = c.pop-front-chunk.ensures.items in
+    let x = c.pop_front-chunk.result in
+    let ys = items c.pop_front-chunk.new.self in
+    let is = c.pop_front-chunk.ensures.items in
     let piece = c.in-Ok.piece in
     let cut = c.in-Ok.ensures in
     let h = subst (Ends k.size n) is c.requires.longer in
@@ -20,16 +20,16 @@ returns g c =
       target = λ s.
           let v = k.value s in
           let sized = g.met.K.Chunk.sized s in
-          ap (map v) c.push-back.ensures.items ∙ map_push v (items c.args.to.now) piece ∙ ap (λ w. values k s c.args.to.now ++ w ∷ []) (cut.front s)
+          ap (map v) c.push_back.ensures.items ∙ map_push v (items c.args.to.now) piece ∙ ap (λ w. values k s c.args.to.now ++ w ∷ []) (cut.front s)
           ∙ ap (λ ws. values k s c.args.to.now ++ ws) (sym (ap (λ zs. fronts n (map v zs)) is ∙ fronts_piece k.size v sized n x ys c.requires.some h));
-      target_limit = c.push-back.ensures.limit;
-      target_sound = c.push-back.ensures.sound;
+      target_limit = c.push_back.ensures.limit;
+      target_sound = c.push_back.ensures.sound;
       rest = record {
         leaves = λ s.
             let v = k.value s in
-            ap (map v) c.push-front.ensures.items ∙ ap (λ w. w ∷ map v ys) (cut.left s)
+            ap (map v) c.push_front.ensures.items ∙ ap (λ w. w ∷ map v ys) (cut.left s)
             ∙ sym (ap (λ zs. rests n (map v zs)) is ∙ rests_piece k.size v (g.met.K.Chunk.sized s) n x ys h);
-        limit = c.push-front.ensures.limit ∙ c.pop-front-chunk.ensures.limit;
-        sound = c.push-front.ensures.sound;
+        limit = c.push_front.ensures.limit ∙ c.pop_front-chunk.ensures.limit;
+        sound = c.push_front.ensures.sound;
       };
     }

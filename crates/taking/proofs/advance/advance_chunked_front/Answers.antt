@@ -9,48 +9,48 @@ use Rattle.taking.specs.Rings.{values}
 use Rattle.taking.proofs.Rounds.{surely, front_used, front_part, fronts_none, sum_some}
 use Rattle.taking.proofs.advance.advance_chunked_front.Goals as goal
 
-pub pop-front-chunk-requires : goal.pop-front-chunk-requires
-pop-front-chunk-requires g c = record {
+pub pop_front-chunk-requires : goal.pop_front-chunk-requires
+pop_front-chunk-requires g c = record {
   sound = c.loop-left.invariant.2;
   some = sum_some g.K.Chunk.size (items c.loop-left.ring) (omega (arith, c.loop-left.invariant.0, c.loop-left-test.true));
 }
 
-pub loop-left-preserved-then-used-up : goal.loop-left-preserved-then-used-up
-loop-left-preserved-then-used-up g c =
+pub loop-left-preserved-then-used_up : goal.loop-left-preserved-then-used_up
+loop-left-preserved-then-used_up g c =
     let m = g.K.Chunk in
     let laws = g.met.K.Chunk in
-    let x = c.pop-front-chunk.result in
+    let x = c.pop_front-chunk.result in
     let xs = items c.loop-left.ring in
-    let ys = items c.pop-front-chunk.new.self in
-    let p : xs ≡ x ∷ ys = c.pop-front-chunk.ensures.items in (
+    let ys = items c.pop_front-chunk.new.self in
+    let p : xs ≡ x ∷ ys = c.pop_front-chunk.ensures.items in (
       omega (arith, ap (sum_by m.size) p, c.loop-left.invariant.0, c.remaining-size.ensures),
-      c.pop-front-chunk.ensures.limit ∙ c.loop-left.invariant.1,
-      c.pop-front-chunk.ensures.sound,
-      (λ s. front_used (m.value s) c.loop-left.left c.remaining-size.result xs ys x p (c.remaining-size.ensures ∙ sym (laws.sized s x)) c.loop-left-test.true (true-leb _ _ c.if-used-up.ensures) ∙ c.loop-left.invariant.3 s),
+      c.pop_front-chunk.ensures.limit ∙ c.loop-left.invariant.1,
+      c.pop_front-chunk.ensures.sound,
+      (λ s. front_used (m.value s) c.loop-left.left c.remaining-size.result xs ys x p (c.remaining-size.ensures ∙ sym (laws.sized s x)) c.loop-left-test.true (true-leb _ _ c.if-used_up.ensures) ∙ c.loop-left.invariant.3 s),
     )
 
-pub push-front-requires : goal.push-front-requires
-push-front-requires g c = record {
-  sound = c.pop-front-chunk.ensures.sound;
-  short = omega (arith, ap length c.pop-front-chunk.ensures.items, items_fit c.loop-left.ring c.loop-left.invariant.2, c.pop-front-chunk.ensures.limit);
+pub push_front-requires : goal.push_front-requires
+push_front-requires g c = record {
+  sound = c.pop_front-chunk.ensures.sound;
+  short = omega (arith, ap length c.pop_front-chunk.ensures.items, items_fit c.loop-left.ring c.loop-left.invariant.2, c.pop_front-chunk.ensures.limit);
 }
 
 pub loop-left-preserved : goal.loop-left-preserved
 loop-left-preserved g c =
     let m = g.K.Chunk in
     let laws = g.met.K.Chunk in
-    let x = c.pop-front-chunk.result in
+    let x = c.pop_front-chunk.result in
     let y = c.advance.new.self in
     let xs = items c.loop-left.ring in
-    let ys = items c.pop-front-chunk.new.self in
-    let p : xs ≡ x ∷ ys = c.pop-front-chunk.ensures.items in
+    let ys = items c.pop_front-chunk.new.self in
+    let p : xs ≡ x ∷ ys = c.pop_front-chunk.ensures.items in
     let left = c.loop-left.left in
-    let more : left < c.remaining-size.result = false-leb _ _ c.if-used-up.ensures in
+    let more : left < c.remaining-size.result = false-leb _ _ c.if-used_up.ensures in
     let a : Advanced m.value m.size left x y = surely c.advance.result c.advance.ensures (λ f q. omega (arith, q.0.fewer)) in (
       omega arith,
-      c.push-front.ensures.limit ∙ c.pop-front-chunk.ensures.limit ∙ c.loop-left.invariant.1,
-      c.push-front.ensures.sound,
-      (λ s. front_part (m.value s) left xs ys (items c.push-front.new.self) x y p c.push-front.ensures.items c.loop-left-test.true (omega (arith, c.remaining-size.ensures, laws.sized s x)) (a.left s) ∙ c.loop-left.invariant.3 s),
+      c.push_front.ensures.limit ∙ c.pop_front-chunk.ensures.limit ∙ c.loop-left.invariant.1,
+      c.push_front.ensures.sound,
+      (λ s. front_part (m.value s) left xs ys (items c.push_front.new.self) x y p c.push_front.ensures.items c.loop-left-test.true (omega (arith, c.remaining-size.ensures, laws.sized s x)) (a.left s) ∙ c.loop-left.invariant.3 s),
     )
 
 pub returns : goal.returns

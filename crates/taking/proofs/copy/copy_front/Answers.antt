@@ -15,6 +15,6 @@ returns-then-n-remaining g c =
     let x = c.at-front.result.now in
     let n = c.args.n in
     let size = g.met.K.Chunk.sized s x in
-    let w = surely c.write-out.result c.write-out.ensures (λ y q. omega (arith, q.0.fewer)) in
+    let w = surely c.write_out.result c.write_out.ensures (λ y q. omega (arith, q.0.fewer)) in
     let j : joined (map v xs) ≡ (v x).bytes ++ joined (map v (drop 1 xs)) = joined_split v xs 0 x (omega arith) c.at-front.ensures in
     w.after ∙ ap (λ bs. bs ++ drop n c.args.out.now) (sym (ap (take n) j ∙ take-append-le n (v x).bytes (joined (map v (drop 1 xs))) (omega arith)))

@@ -34,10 +34,10 @@ loop-i-preserved g c =
     let f : k ≡ min (n - at) (length b) = c.min-k.ensures ∙ ap (min (n - at)) (asked ∙ sym lb) in
     let j : joined (map v xs) ≡ p ++ (b ++ r) = joined_split v xs i x h c.at-chunk.ensures in
     let fits : length (take (n - at) (drop at c.loop-i.out)) ≡ n - at = length-take-le (n - at) (drop at c.loop-i.out) (simp length-drop (omega arith)) in
-    let w = surely c.write-out.result c.write-out.ensures (λ y q. omega (arith, q.0.fewer, fits)) in
+    let w = surely c.write_out.result c.write_out.ensures (λ y q. omega (arith, q.0.fewer, fits)) in
     let long : at ≤ length (joined (map v xs)) = rw j (simp length-append (omega arith)) in (
       omega (arith, more),
-      copied_more (joined (map v xs)) b c.args.out.now c.loop-i.out c.write-out.new.out n at k long (omega arith) c.requires.fits c.loop-i.invariant.1 w.after
+      copied_more (joined (map v xs)) b c.args.out.now c.loop-i.out c.write_out.new.out n at k long (omega arith) c.requires.fits c.loop-i.invariant.1 w.after
           (ap (take (at + k)) j ∙ taken_more p b r n at k e f ∙ ap (λ bs. take at bs ++ take k b) (sym j)),
     )
 

@@ -9,8 +9,8 @@ use Rattle.taking.proofs.Fits.{items_fit}
 use Rattle.taking.proofs.Sums.{sum_capacities}
 use Rattle.taking.proofs.totals.capacity.Goals as goal
 
-pub overflow-add-places : goal.overflow-add-places
-overflow-add-places g c =
+pub overflow_add-places : goal.overflow_add-places
+overflow_add-places g c =
     let xs = items c.args.ring.now in
     let bounded = g.met.K.Chunk.bounded in
     let b = sum_bound (λ x. g.K.Chunk.size x + (g.K.Chunk.tail x).count) store_size (λ x. omega (arith, bounded x)) (take c.loop-i.i xs) in

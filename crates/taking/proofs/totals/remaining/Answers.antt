@@ -8,8 +8,8 @@ use Rattle.taking.proofs.Fits.{items_fit}
 use Rattle.taking.proofs.Sums.{sum_sizes}
 use Rattle.taking.proofs.totals.remaining.Goals as goal
 
-pub overflow-add-bytes : goal.overflow-add-bytes
-overflow-add-bytes g c =
+pub overflow_add-bytes : goal.overflow_add-bytes
+overflow_add-bytes g c =
     let xs = items c.args.ring.now in
     let bounded = g.met.K.Chunk.bounded in
     let b = sum_bound g.K.Chunk.size store_size (λ x. omega (arith, bounded x)) (take c.loop-i.i xs) in

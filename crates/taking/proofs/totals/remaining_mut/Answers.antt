@@ -9,8 +9,8 @@ use Rattle.taking.proofs.Fits.{items_fit}
 use Rattle.taking.proofs.Sums.{sum_tails}
 use Rattle.taking.proofs.totals.remaining_mut.Goals as goal
 
-pub overflow-add-tails : goal.overflow-add-tails
-overflow-add-tails g c =
+pub overflow_add-tails : goal.overflow_add-tails
+overflow_add-tails g c =
     let xs = items c.args.ring.now in
     let bounded = g.met.K.Chunk.bounded in
     let b = sum_bound (λ x. (g.K.Chunk.tail x).count) store_size (λ x. omega (arith, bounded x)) (take c.loop-i.i xs) in

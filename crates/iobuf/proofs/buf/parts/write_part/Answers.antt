@@ -5,8 +5,8 @@ use Rattle.lists.proofs.Parts.{length_part, take_part}
 use Rattle.iobuf.proofs.Writes.{written, shown}
 use Rattle.iobuf.proofs.buf.parts.write_part.Goals as goal
 
-pub copy-from-slice-requires : goal.copy-from-slice-requires
-copy-from-slice-requires c =
+pub copy_from_slice-requires : goal.copy_from_slice-requires
+copy_from_slice-requires c =
     let m = c.args.store.now.bytes in
     let seen = shown c.args.place c.args.n m c.in-Some.bytes.now (omega arith) c.in-Some.ensures in
     omega (arith, length-take-le c.args.n c.args.out.now c.requires.fits, ap length seen, length_part c.args.place c.args.n m (omega arith))
@@ -17,4 +17,4 @@ returns c =
     let long = length_part c.args.place c.args.len m (omega arith) in
     let seen = shown c.args.place c.args.n m c.in-Some.bytes.now (omega arith) c.in-Some.ensures in
     written c.args.n _ c.args.out.now _ (omega (arith, long)) c.requires.fits
-    (c.copy-from-slice.ensures.after ∙ seen ∙ sym (take_part c.args.place c.args.len c.args.n m c.requires.within))
+    (c.copy_from_slice.ensures.after ∙ seen ∙ sym (take_part c.args.place c.args.len c.args.n m c.requires.within))

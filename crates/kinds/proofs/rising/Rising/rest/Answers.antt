@@ -8,4 +8,4 @@ pub returns : goal.returns
 returns c =
     let x = c.args.self in
     let n = c.args.n in
-    λ s. ap flat (ap (λ b. rising b (x.count - n)) c.byte-at.ensures ∙ sym (drop_rising n x.start x.count c.requires))
+    λ s. ap flat (ap (λ b. rising b (x.count - n)) c.byte_at.ensures ∙ sym (drop_rising n x.start x.count c.requires))

@@ -7,8 +7,8 @@ pub loop-i-preserved : goal.loop-i-preserved
 loop-i-preserved c =
     let x = c.args.self in
     let i = c.loop-i.i in
-    let b = c.byte-at.result in
-    ap (λ ys. set ys i b) c.loop-i.invariant ∙ written_next x.start x.count i b c.args.out.now (omega arith) (omega arith) c.byte-at.ensures
+    let b = c.byte_at.result in
+    ap (λ ys. set ys i b) c.loop-i.invariant ∙ written_next x.start x.count i b c.args.out.now (omega arith) (omega arith) c.byte_at.ensures
 
 pub returns : goal.returns
 returns c =
