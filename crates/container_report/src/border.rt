@@ -25,7 +25,7 @@ fn parted(bytes: &[u8], n: usize) -> (&[u8], &[u8])
 
 // A chunk behind another.
 fn write_behind<W: fmt::Write>(f: &mut fmt::Formatter<W>, chunk: &[u8]) -> fmt::Result
-    ensures { WritesOnOk write_str_gives f.old result (behind_border chunk.now) f.new }
+    ensures { WritesOnOk W.write_str_gives f.old result (behind_border chunk.now) f.new }
 {
     let bytes = Hex(chunk);
     write!(f, " | {bytes}")

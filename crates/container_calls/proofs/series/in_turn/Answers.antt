@@ -49,7 +49,7 @@ loop-i-preserved g c =
     let P : List (Call _) → Type 0 = λ cs. SoFar k f m b before cs d (take i noted ++ r ∷ []) next on in
     let N : List Answer → Type 0 = λ rs. SoFar k f m b before (take (i + 1) calls) d rs next on in (
       subst N (sym (take_more_set noted i r fits)) (subst P first more),
-      drop_set_lt (i + 1) noted i r (omega arith) ∙ one_on noted c.args.answers.now i c.loop-i.invariant.1,
+      drop-set-lt (i + 1) noted i r (omega arith) ∙ one_on noted c.args.answers.now i c.loop-i.invariant.1,
     )
   where
     one_on : (xs ys : List Answer) (i : ℕ) → drop i xs ≡ drop i ys → drop (i + 1) xs ≡ drop (i + 1) ys

@@ -31,4 +31,4 @@ returns-clause-writes g c =
     let left = others_all inv.0 others c.loop-size.rest.now c.loop-size.size-index c.loop-size-test.false in
     prints_is (Ok tt) _ _
     (bordered_all sizes _ c.parted.result.0.now c.parted.result.1.now inv.0 (search rules) c.parted.ensures.front c.parted.ensures.rest (sym left ∙ inv.2))
-    (prints_more (Ok tt) _ _ _ c.in_ok-fmt.ensures inv.1)
+    (prints_more (Ok tt) _ _ _ c.in_ok-fmt.ensures.writes inv.1)
