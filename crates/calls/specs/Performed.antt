@@ -3,7 +3,6 @@ use Rattle.std.specs.Prelude.{ℕ, cond, List, [], ◌++◌, length, take, drop,
 use Rattle.store.specs.Faults.{fault, not_enough_bytes, run_too_long}
 use Rattle.store.specs.Sizes.{store_size}
 use Rattle.store.specs.declared.fault.Fault.{Fault}
-use Rattle.store.specs.declared.fault.Layer.{Layer}
 use Rattle.store.specs.declared.fault.Layer.TheVariants.{Chunk}
 use Rattle.calls.specs.declared.call.Call.{Call}
 use Rattle.calls.specs.declared.call.Call.TheVariants.{Run, Cut, Advance, WriteOut}

@@ -1,5 +1,5 @@
 -- Shared chunks by their values.
-use Rattle.std.proofs.Common.{◌≡◌, Bool, true, false, cond, List, [], ◌∷◌, map, length, filter, sym, refl, ap, ◌∙◌}
+use Rattle.std.proofs.Common.{◌≡◌, List, [], ◌∷◌, map, length, filter, sym, refl, ap, ◌∙◌}
 use Rattle.std.proofs.lemmas.Bool.{cond_both, cond-true, cond-false}
 use Rattle.store.specs.declared.space.Store.{Store}
 use Rattle.iobuf.specs.Values.{Value, Tail, no_tail, flat}

@@ -1,9 +1,9 @@
 -- The laws of runs hold of every container straight from its making.
-use Rattle.std.proofs.Common.{◌≡◌, ℕ, List, [], map, filter, sym, ap, ◌∙◌, subst}
+use Rattle.std.proofs.Common.{ℕ, List, [], map, sym, ap, ◌∙◌, subst}
 use Rattle.store.specs.declared.space.Store.{Store}
 use Rattle.iobuf.specs.Values.{Value}
 use Rattle.iobuf.specs.declared.chunk.Chunk.{Ghosts}
-use Rattle.ring.specs.Model.{items, limit}
+use Rattle.ring.specs.Model.{limit}
 use Rattle.ring.specs.declared.Ring.{Ring}
 use Rattle.rules.specs.Chunks.{joined}
 use Rattle.taking.specs.Rings.{values}

@@ -1,8 +1,8 @@
 -- What each call promises of a container, as a step on the values of its chunks.
-use Rattle.std.proofs.Common.{◌≡◌, ℕ, ◌≤◌, Bool, true, false, leb, List, [], ◌∷◌, ◌++◌, map, length, take, drop, Ok, Err, Result, sym, refl, ap, ◌∙◌, arith, MatchResult}
+use Rattle.std.proofs.Common.{◌≡◌, ℕ, ◌≤◌, Bool, true, false, List, [], ◌∷◌, ◌++◌, map, length, Ok, Err, Result, sym, refl, ap, ◌∙◌, MatchResult}
 use Rattle.std.proofs.lemmas.List.{map_push, nil_from_length}
 use Rattle.std.proofs.lemmas.Bool.{leb-true, false≢true}
-use Rattle.store.specs.Faults.{asks, fault, not_enough_bytes, output_too_short, not_empty, no_slot, Short, Unwritten}
+use Rattle.store.specs.Faults.{asks, not_enough_bytes, output_too_short, not_empty, no_slot, Short, Unwritten}
 use Rattle.store.specs.declared.fault.Fault.{Fault}
 use Rattle.store.specs.declared.fault.Layer.TheVariants.{Container}
 use Rattle.store.specs.declared.space.Store.{Store}
@@ -10,7 +10,7 @@ use Rattle.iobuf.specs.Values.{Value, flat}
 use Rattle.iobuf.specs.declared.chunk.Chunk.{Ghosts}
 use Rattle.ring.specs.Model.{items, limit}
 use Rattle.ring.specs.declared.Ring.{Ring}
-use Rattle.rules.specs.Chunks.{kept, joined, remaining}
+use Rattle.rules.specs.Chunks.{kept, remaining}
 use Rattle.rules.specs.Putting.{slot_for, put}
 use Rattle.rules.specs.Splitting.{fronts, rests, share}
 use Rattle.rules.specs.Taking.{form_of, taken_in}

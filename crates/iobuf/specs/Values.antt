@@ -1,5 +1,5 @@
 -- What a chunk is worth in a store: its bytes, and the writable bytes that lie behind them.
-use Rattle.std.specs.Prelude.{◌≡◌, ℕ, ◌+◌, ◌≤◌, List, ◌++◌, length, take, drop}
+use Rattle.std.specs.Prelude.{◌≡◌, ℕ, ◌≤◌, List, ◌++◌, length, take, drop}
 use Rattle.store.specs.declared.space.Store.{Store}
 
 -- the writable bytes of a chunk: where in the store they begin, and how many they are

@@ -2,7 +2,6 @@
 use Rattle.std.specs.Prelude.{◌≡◌, ℕ, ◌+◌, ◌≤◌, true, List, [], ◌∷◌, drop}
 use Rattle.iobuf.specs.Values.{Value, no_tail}
 use Rattle.rules.specs.Chunks.{joined, remaining, kept}
-use Rattle.rules.specs.Taking.{left_after, left_after_copy}
 
 -- each chunk is kept
 abbrev pub AllKept : List Value → Type 0

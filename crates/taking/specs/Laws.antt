@@ -1,7 +1,6 @@
 -- What the calls that take bytes keep, beyond their rules.
 use Rattle.std.specs.Prelude.{◌≡◌, ℕ, ◌≤◌, List, length, take}
 use Rattle.store.specs.declared.space.Store.{Store}
-use Rattle.iobuf.specs.Values.{Value}
 use Rattle.iobuf.specs.declared.chunk.Chunk.{Ghosts}
 use Rattle.ring.specs.Model.{items}
 use Rattle.ring.specs.declared.Ring.{Ring}

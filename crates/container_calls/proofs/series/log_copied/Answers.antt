@@ -1,7 +1,7 @@
-use Rattle.std.proofs.Common.{◌≡◌, ℕ, ◌+◌, ◌-◌, ◌≤◌, min, List, [], length, take, sym, refl, ap, ◌∙◌, subst, arith, length-take}
+use Rattle.std.proofs.Common.{◌≡◌, ℕ, ◌-◌, min, List, [], length, take, sym, refl, ap, ◌∙◌, arith}
 use Rattle.lists.specs.Parts.{part, poured}
 use Rattle.lists.proofs.Parts.{length_part, poured_mid, poured_none}
-use Rattle.container_calls.specs.Series.{copied_bytes, CopiedWithin}
+use Rattle.container_calls.specs.Series.{copied_bytes}
 use Rattle.container_calls.specs.declared.answer.Answer.{Answer}
 use Rattle.container_calls.specs.declared.answer.Answer.TheVariants.{Accepted, Copied, Refused}
 use Rattle.container_calls.proofs.series.log_copied.Goals as goal

@@ -1,4 +1,4 @@
-use Rattle.std.proofs.Common.{◌≡◌, ℕ, ◌+◌, ◌-◌, ◌≤◌, min, ◌++◌, length, take, drop, sym, ap, ◌∙◌, arith}
+use Rattle.std.proofs.Common.{◌≡◌, ℕ, ◌-◌, min, length, arith}
 use Rattle.lists.specs.Parts.{part}
 use Rattle.lists.proofs.Parts.{length_part, poured_mid}
 use Rattle.store.specs.Faults.{Unwritten}

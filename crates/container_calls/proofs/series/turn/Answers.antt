@@ -1,4 +1,4 @@
-use Rattle.std.proofs.Common.{◌≡◌, ◌+◌, ◌≤◌, min, length, sym, ap, ◌∙◌, arith, length-append}
+use Rattle.std.proofs.Common.{◌≡◌, ◌+◌, min, length, ap, ◌∙◌, arith, length-append}
 use Rattle.lists.specs.Parts.{poured}
 use Rattle.lists.proofs.Parts.{length_poured, poured_more}
 use Rattle.store.specs.Sizes.{chunk_limit}

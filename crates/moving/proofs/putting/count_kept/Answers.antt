@@ -1,4 +1,4 @@
-use Rattle.std.proofs.Common.{◌≡◌, ◌+◌, ◌<◌, ◌∷◌, length, drop, filter, sym, ap, ◌∙◌, arith}
+use Rattle.std.proofs.Common.{◌<◌, length, filter, sym, ap, ◌∙◌, arith}
 use Rattle.std.proofs.lemmas.List.{drop_all}
 use Rattle.lists.proofs.Loops.{kept_next, kept_over}
 use Rattle.taking.specs.Rings.{kept_of}

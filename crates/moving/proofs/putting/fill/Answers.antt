@@ -1,4 +1,4 @@
-use Rattle.std.proofs.Common.{◌≡◌, ◌+◌, ◌<◌, true, false, List, [], ◌∷◌, ◌++◌, length, drop, filter, sym, ap, ◌∙◌, arith, length-append, rules}
+use Rattle.std.proofs.Common.{◌+◌, ◌++◌, length, drop, filter, sym, ap, ◌∙◌, arith, length-append, rules}
 use Rattle.std.proofs.lemmas.List.{drop_all, append-nil, nil_from_length}
 use Rattle.lists.proofs.Loops.{kept_next, kept_put}
 use Rattle.ring.specs.Model.{items}

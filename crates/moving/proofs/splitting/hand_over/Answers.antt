@@ -1,6 +1,6 @@
 use Rattle.std.proofs.Common.{◌≡◌, ◌+◌, ◌-◌, length, ap, ◌∙◌, arith, length-append}
 use Rattle.lists.proofs.Loops.{one_given, one_gone}
-use Rattle.ring.specs.Model.{items, limit}
+use Rattle.ring.specs.Model.{items}
 use Rattle.moving.proofs.splitting.hand_over.Goals as goal
 
 pub loop-i-preserved : goal.loop-i-preserved

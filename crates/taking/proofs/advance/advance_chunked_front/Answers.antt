@@ -1,4 +1,4 @@
-use Rattle.std.proofs.Common.{◌≡◌, ◌+◌, ◌-◌, ◌<◌, ◌≤◌, min, [], ◌∷◌, ◌++◌, length, sym, refl, ap, ◌∙◌, arith}
+use Rattle.std.proofs.Common.{◌≡◌, ◌<◌, ◌∷◌, length, sym, ap, ◌∙◌, arith}
 use borrow.Author.Tests.{true-leb, false-leb}
 use Rattle.iobuf.specs.Values.{Advanced}
 use Rattle.lists.specs.Sums.{sum_by}

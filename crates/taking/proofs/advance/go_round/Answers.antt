@@ -1,8 +1,7 @@
-use Rattle.std.proofs.Common.{◌≡◌, ◌+◌, ◌-◌, ◌<◌, ◌≤◌, min, [], ◌∷◌, ◌++◌, length, sym, refl, ap, ◌∙◌, subst, arith}
+use Rattle.std.proofs.Common.{◌≡◌, ◌+◌, ◌-◌, min, [], ◌∷◌, ◌++◌, length, sym, refl, ap, ◌∙◌, subst, arith}
 use Rattle.std.proofs.lemmas.List.{length_push}
 use Rattle.iobuf.specs.Values.{Advanced}
 use Rattle.ring.specs.Model.{Sound, items, limit}
-use Rattle.ring.specs.declared.Ring.{Ring}
 use Rattle.taking.proofs.Fits.{items_fit}
 use Rattle.taking.proofs.Rounds.{surely, kept_is, rotated, rotate_keep, rotate_drop, rotate_start, rotate_end}
 use Rattle.taking.proofs.advance.go_round.Goals as goal

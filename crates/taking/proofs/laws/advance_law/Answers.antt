@@ -1,4 +1,4 @@
-use Rattle.std.proofs.Common.{◌≡◌, sym, ap, ◌∙◌, subst, arith}
+use Rattle.std.proofs.Common.{sym, ap, ◌∙◌, subst, arith}
 use Rattle.ring.specs.Model.{items}
 use Rattle.rules.specs.Chunks.{joined}
 use Rattle.rules.specs.Laws.{AllKept}

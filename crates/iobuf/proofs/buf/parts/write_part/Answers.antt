@@ -1,6 +1,5 @@
-use Rattle.std.proofs.Common.{◌≡◌, length, take, sym, ap, ◌∙◌, arith}
+use Rattle.std.proofs.Common.{length, sym, ap, ◌∙◌, arith}
 use Rattle.std.proofs.lemmas.List.{length-take-le}
-use Rattle.lists.specs.Parts.{part}
 use Rattle.lists.proofs.Parts.{length_part, take_part}
 use Rattle.iobuf.proofs.Writes.{written, shown}
 use Rattle.iobuf.proofs.buf.parts.write_part.Goals as goal
