@@ -31,8 +31,8 @@ stands : (most : ℕ) (c : Step) (vs : List Value) (out : List ℕ) → Stands c
 stands most (append bs) vs out = either_way (asks (questions most (append bs) vs)) (append bs) vs (λ s. Stands (append bs) out s.0) (λ _. (refl, tt)) (λ _. (refl, tt))
 stands most (prepend bs) vs out = either_way (asks (questions most (prepend bs) vs)) (prepend bs) vs (λ s. Stands (prepend bs) out s.0) (λ _. (refl, tt)) (λ _. (refl, tt))
 stands most (advance n) vs out = either_way (asks (questions most (advance n) vs)) (advance n) vs (λ s. Stands (advance n) out s.0) (λ _. (refl, tt)) (λ _. (refl, tt))
-stands most (split_to n its-limit held) vs out =
-    let c = split_to n its-limit held in
+stands most (split_to n its_limit held) vs out =
+    let c = split_to n its_limit held in
     either_way (asks (questions most c vs)) c vs (λ s. Stands c out s.0) (λ _. (append-nil _, tt)) (λ _. (refl, tt))
 stands most (copy_to_bytes n places) vs out =
     let c = copy_to_bytes n places in
@@ -43,8 +43,8 @@ stands most (copy_to_bytes n places) vs out =
     (λ _. (refl, tt))
 
 -- one call, with a target that was empty and of that limit
-module _ {K : Type 0} (k : Ghosts K) (q : Call K) (m : Store) (r : Answer) (b c t u : Ring K) (was is : List ℕ) (its-limit : ℕ)
-    (p : Performed k q m r b c t u was is) (none : items t ≡ []) (most : limit t ≡ its-limit) where
+module _ {K : Type 0} (k : Ghosts K) (q : Call K) (m : Store) (r : Answer) (b c t u : Ring K) (was is : List ℕ) (its_limit : ℕ)
+    (p : Performed k q m r b c t u was is) (none : items t ≡ []) (most : limit t ≡ its_limit) where
   abbrev made : ℕ → ℕ → Store → Step
   made i j s = step_of k i j (length was) s q
 
@@ -54,7 +54,7 @@ module _ {K : Type 0} (k : Ghosts K) (q : Call K) (m : Store) (r : Answer) (b c 
   abbrev Turned : ℕ → ℕ → Type 0
   Turned i j = Stepped k (made i j) r b c × (values k m u ≡ target_after (made i j m) (answer i j) []) × (is ≡ output_after (made i j m) (answer i j) was)
 
-  turned : Turned its-limit 0
+  turned : Turned its_limit 0
   turned =
       let held : length (items t) ≡ 0 = ap length none in
       let start : Turned (limit t) (length (items t)) =
@@ -63,23 +63,23 @@ module _ {K : Type 0} (k : Ghosts K) (q : Call K) (m : Store) (r : Answer) (b c 
       let P : ℕ → Type 0 = λ i. Turned i 0 in
       subst P most at_none
 
-  pub container : Stepped k (made its-limit 0) r b c
+  pub container : Stepped k (made its_limit 0) r b c
   container = turned.0
 
-  same_answer : r ≡ told (answer its-limit 0)
+  same_answer : r ≡ told (answer its_limit 0)
   same_answer = turned.0.answer m
 
-  pub handed_on : joined (values k m u) ++ copied_bytes r is ≡ handed (answer its-limit 0)
+  pub handed_on : joined (values k m u) ++ copied_bytes r is ≡ handed (answer its_limit 0)
   handed_on =
       ap (λ ws. joined ws ++ copied_bytes r is) turned.1
-      ∙ ap (λ a. joined (target_after (made its-limit 0 m) (answer its-limit 0) []) ++ copied_bytes a is) same_answer
-      ∙ ap (λ os. joined (target_after (made its-limit 0 m) (answer its-limit 0) []) ++ copied_bytes (told (answer its-limit 0)) os) turned.2
-      ∙ (stands (limit b) (made its-limit 0 m) (values k m b) was).0
+      ∙ ap (λ a. joined (target_after (made its_limit 0 m) (answer its_limit 0) []) ++ copied_bytes a is) same_answer
+      ∙ ap (λ os. joined (target_after (made its_limit 0 m) (answer its_limit 0) []) ++ copied_bytes (told (answer its_limit 0)) os) turned.2
+      ∙ (stands (limit b) (made its_limit 0 m) (values k m b) was).0
 
   pub copied_within : CopiedWithin r is
   copied_within =
       let P : Answer → Type 0 = λ a. CopiedWithin a is in
-      subst P (sym same_answer) (subst (CopiedWithin (told (answer its-limit 0))) (sym turned.2) (stands (limit b) (made its-limit 0 m) (values k m b) was).1)
+      subst P (sym same_answer) (subst (CopiedWithin (told (answer its_limit 0))) (sym turned.2) (stands (limit b) (made its_limit 0 m) (values k m b) was).1)
 
 -- The calls `first` of a list have been made, as f has them in each store: the container b then is c, the answers stand noted, and `at` bytes of those handed out are in the log.
 pub record SoFar {K : Type 0} (k : Ghosts K) (f : Store → Call K → Step) (m : Store) (b : Ring K) (before : List ℕ) (first : List (Call K)) (c : Ring K) (noted : List Answer) (log : List ℕ) (at : ℕ) : Type 0 where

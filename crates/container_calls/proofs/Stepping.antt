@@ -103,13 +103,13 @@ module _ {K : Type 0} (k : Ghosts K) (shows : Shared k) where
       (recase P (λ _. Leaves k (λ _. advance n) b c) Q (λ _. c ≡ b) r (λ _ p. (λ s. advance_rule k s n b c p.1, p.1.limit)) (λ _ q. q.1) d)
 
   -- the questions of a split, by sizes and by values
-  split_asks : (s : Store) (n held its-limit : ℕ) (b : Ring K)
-      → asks (not_enough_bytes Container n (bytes_in k b) ∷ not_empty held ∷ no_slot (share k.size n (items b)) its-limit ∷ [])
-      ≡ asks (not_enough_bytes Container n (remaining (values k s b)) ∷ not_empty held ∷ no_slot (length (fronts n (values k s b))) its-limit ∷ [])
-  split_asks s n held its-limit b =
-      asked_then (not_enough_bytes Container n (bytes_in k b)) (not_empty held ∷ no_slot (share k.size n (items b)) its-limit ∷ []) (not_empty held ∷ no_slot (length (fronts n (values k s b))) its-limit ∷ [])
-      (λ t. ap (λ i. asks (not_empty held ∷ no_slot i its-limit ∷ [])) (share_is k.size (k.value s) (shows.sized s) n (items b) (leb-true n (bytes_in k b) t)))
-      ∙ ap (λ i. asks (not_enough_bytes Container n i ∷ not_empty held ∷ no_slot (length (fronts n (values k s b))) its-limit ∷ [])) (bytes_are s b)
+  split_asks : (s : Store) (n held its_limit : ℕ) (b : Ring K)
+      → asks (not_enough_bytes Container n (bytes_in k b) ∷ not_empty held ∷ no_slot (share k.size n (items b)) its_limit ∷ [])
+      ≡ asks (not_enough_bytes Container n (remaining (values k s b)) ∷ not_empty held ∷ no_slot (length (fronts n (values k s b))) its_limit ∷ [])
+  split_asks s n held its_limit b =
+      asked_then (not_enough_bytes Container n (bytes_in k b)) (not_empty held ∷ no_slot (share k.size n (items b)) its_limit ∷ []) (not_empty held ∷ no_slot (length (fronts n (values k s b))) its_limit ∷ [])
+      (λ t. ap (λ i. asks (not_empty held ∷ no_slot i its_limit ∷ [])) (share_is k.size (k.value s) (shows.sized s) n (items b) (leb-true n (bytes_in k b) t)))
+      ∙ ap (λ i. asks (not_enough_bytes Container n i ∷ not_empty held ∷ no_slot (length (fronts n (values k s b))) its_limit ∷ [])) (bytes_are s b)
 
   -- what a split promises, as the step
   abbrev Halved : ℕ → Ring K → Ring K → Ring K → Ring K → Type 0

@@ -14,12 +14,12 @@ use Rattle.container_calls.specs.declared.call.Call.{Call}
 use Rattle.container_calls.specs.declared.call.Call.TheVariants.{Append, Prepend, Advance, SplitTo, CopyToBytes}
 
 -- a call as a step: its chunk by the bytes that it has in the store s, its target by limit and count, its output by its places
-abbrev pub step_of : {K : Type 0} → Ghosts K → (its-limit held places : ℕ) → Store → Call K → Step
-step_of k its-limit held places s (Append x) = append (k.value s x).bytes
-step_of k its-limit held places s (Prepend x) = prepend (k.value s x).bytes
-step_of k its-limit held places s (Advance n) = advance n
-step_of k its-limit held places s (SplitTo n) = split_to n its-limit held
-step_of k its-limit held places s (CopyToBytes n) = copy_to_bytes n places
+abbrev pub step_of : {K : Type 0} → Ghosts K → (its_limit held places : ℕ) → Store → Call K → Step
+step_of k its_limit held places s (Append x) = append (k.value s x).bytes
+step_of k its_limit held places s (Prepend x) = prepend (k.value s x).bytes
+step_of k its_limit held places s (Advance n) = advance n
+step_of k its_limit held places s (SplitTo n) = split_to n its_limit held
+step_of k its_limit held places s (CopyToBytes n) = copy_to_bytes n places
 
 -- what the caller is answered; what was handed out stands elsewhere
 abbrev pub told : Told → Answer
@@ -45,17 +45,17 @@ target_after (append bs) a ws = ws
 target_after (prepend bs) a ws = ws
 target_after (advance n) a ws = ws
 target_after (copy_to_bytes n places) a ws = ws
-target_after (split_to n its-limit held) accepted ws = ws
-target_after (split_to n its-limit held) (split chunks) ws = chunks
-target_after (split_to n its-limit held) (copied m bs) ws = ws
-target_after (split_to n its-limit held) (refused f) ws = ws
+target_after (split_to n its_limit held) accepted ws = ws
+target_after (split_to n its_limit held) (split chunks) ws = chunks
+target_after (split_to n its_limit held) (copied m bs) ws = ws
+target_after (split_to n its_limit held) (refused f) ws = ws
 
 -- what stands in an output after a call: in front, the bytes that an accepted copying handed out
 abbrev pub output_after : Step → Told → List ℕ → List ℕ
 output_after (append bs) a out = out
 output_after (prepend bs) a out = out
 output_after (advance n) a out = out
-output_after (split_to n its-limit held) a out = out
+output_after (split_to n its_limit held) a out = out
 output_after (copy_to_bytes n places) accepted out = out
 output_after (copy_to_bytes n places) (split chunks) out = out
 output_after (copy_to_bytes n places) (copied m bs) out = bs ++ drop m out

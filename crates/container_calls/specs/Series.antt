@@ -28,8 +28,8 @@ CopiedWithin (Copied n) out = n ≤ length out
 CopiedWithin (Refused f) out = Unit {0}
 
 -- a list of calls as steps, each with an empty target of that limit and with an output of so many places
-abbrev pub steps_of : {K : Type 0} → Ghosts K → (its-limit places : ℕ) → Store → List (Call K) → List Step
-steps_of k its-limit places s calls = map (step_of k its-limit 0 places s) calls
+abbrev pub steps_of : {K : Type 0} → Ghosts K → (its_limit places : ℕ) → Store → List (Call K) → List Step
+steps_of k its_limit places s calls = map (step_of k its_limit 0 places s) calls
 
 -- the calls were made one after another with the store m, as `steps` has them in each store: the container b answered as the rules say, and then is c; the answers stand in front of the list `noted`, and all the bytes that were handed out in front of the log, as far as that reaches
 pub record Series {K : Type 0} (k : Ghosts K) (steps : Store → List Step) (m : Store) (b c : Ring K) (was noted : List Answer) (before log : List ℕ) : Type 0 where

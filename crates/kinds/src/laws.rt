@@ -1,6 +1,6 @@
 ghost use Rattle.container_calls.specs.Makings.{LawOfRuns};
 ghost use Rattle.container_calls.specs.Performed.{Performed};
-ghost use Rattle.kinds.specs.contracts.rising.calls.RisingChunk.TheImpl.{ghosts as rising-kind};
+ghost use Rattle.kinds.specs.contracts.rising.calls.RisingChunk.TheImpl.{ghosts as rising_kind};
 
 use crate::rising::Rising;
 use bufs::IoBufs;
@@ -18,8 +18,8 @@ pub fn perform_rising(
     target: &mut IoBufs<'_, Rising>,
     out: &mut [u8],
 ) -> Answer
-    ensures performed { Performed rising-kind call store.now result bufs.old.ring bufs.new.ring target.old.ring target.new.ring out.old out.new }
-    ensures laws { LawOfRuns rising-kind }
+    ensures performed { Performed rising_kind call store.now result bufs.old.ring bufs.new.ring target.old.ring target.new.ring out.old out.new }
+    ensures laws { LawOfRuns rising_kind }
 {
     perform(call, bufs, store, target, out)
 }

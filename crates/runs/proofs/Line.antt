@@ -77,7 +77,7 @@ module _ (vs : List Value) (l : Line) (o : OnLine vs l) where
   accepted_held limit (append bs) e = record { on = appended bs; hands = refl }
   accepted_held limit (prepend bs) e = record { on = prepended bs; hands = refl }
   accepted_held limit (advance n) e = taken limit by_advance n e
-  accepted_held limit (split_to n its-limit held) e = taken limit (by_split its-limit held) n e
+  accepted_held limit (split_to n its_limit held) e = taken limit (by_split its_limit held) n e
   accepted_held limit (copy_to_bytes n places) e = taken limit (by_copy places) n e
 
   refused_held : (c : Call) (f : Fault) → Held (hands_out c) l l (refused f) vs

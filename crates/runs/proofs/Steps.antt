@@ -25,7 +25,7 @@ not_short n m r f is = leb-true n m (cond_both (leb n m) r (Err f) (λ q. q ≡ 
 -- an accepted call takes no more bytes than there are
 pub within : (limit : ℕ) (w : Way) (n : ℕ) (vs : List Value) → asks (questions limit (taking w n) vs) ≡ Ok tt → n ≤ remaining vs
 within limit by_advance n vs e = not_short n (remaining vs) _ _ e
-within limit (by_split its-limit held) n vs e = not_short n (remaining vs) _ _ e
+within limit (by_split its_limit held) n vs e = not_short n (remaining vs) _ _ e
 within limit (by_copy places) n vs e = not_short n (remaining vs) _ _ e
 
 -- n bytes were taken of vs in that way: the answer was a, and ws are left

@@ -29,7 +29,7 @@ abbrev pub questions : ℕ → Call → List Value → List Case
 questions limit (append bs) vs = slot_for (kept (flat bs)) (length vs) limit
 questions limit (prepend bs) vs = slot_for (kept (flat bs)) (length vs) limit
 questions limit (advance n) vs = not_enough_bytes Container n (remaining vs) ∷ []
-questions limit (split_to n its-limit held) vs = not_enough_bytes Container n (remaining vs) ∷ not_empty held ∷ no_slot (length (fronts n vs)) its-limit ∷ []
+questions limit (split_to n its_limit held) vs = not_enough_bytes Container n (remaining vs) ∷ not_empty held ∷ no_slot (length (fronts n vs)) its_limit ∷ []
 questions limit (copy_to_bytes n places) vs = not_enough_bytes Container n (remaining vs) ∷ output_too_short Container n places ∷ []
 
 -- what it answers when they are all answered yes
@@ -37,7 +37,7 @@ abbrev pub result : Call → List Value → Answer
 result (append bs) vs = accepted
 result (prepend bs) vs = accepted
 result (advance n) vs = accepted
-result (split_to n its-limit held) vs = split (fronts n vs)
+result (split_to n its_limit held) vs = split (fronts n vs)
 result (copy_to_bytes n places) vs = copied n (take n (joined vs))
 
 -- and which chunks it then leaves
@@ -45,7 +45,7 @@ abbrev pub leaves : Call → List Value → List Value
 leaves (append bs) vs = put (kept (flat bs)) (vs ++ flat bs ∷ []) vs
 leaves (prepend bs) vs = put (kept (flat bs)) (flat bs ∷ vs) vs
 leaves (advance n) vs = left_after n vs
-leaves (split_to n its-limit held) vs = rests n vs
+leaves (split_to n its_limit held) vs = rests n vs
 leaves (copy_to_bytes n places) vs = left_after_copy n vs
 
 -- a call that is refused answers with the fault, and leaves the chunks as they were

@@ -23,7 +23,7 @@ abbrev pub drawn : Call → Line → Line
 drawn (append bs) l = record { bytes = l.bytes ++ bs; mark = l.mark }
 drawn (prepend bs) l = record { bytes = take l.mark l.bytes ++ (bs ++ behind l); mark = l.mark }
 drawn (advance n) l = moved n l
-drawn (split_to n its-limit held) l = moved n l
+drawn (split_to n its_limit held) l = moved n l
 drawn (copy_to_bytes n places) l = moved n l
 
 -- a refusal changes neither the bytes nor the mark
@@ -45,7 +45,7 @@ abbrev pub hands_out : Call → Bool
 hands_out (append bs) = false
 hands_out (prepend bs) = false
 hands_out (advance n) = false
-hands_out (split_to n its-limit held) = true
+hands_out (split_to n its_limit held) = true
 hands_out (copy_to_bytes n places) = true
 
 -- the bytes that the mark passes in those of the calls that hand out, one after another
