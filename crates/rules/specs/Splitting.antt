@@ -7,7 +7,7 @@ abbrev pub fronts : ℕ → List Value → List Value
 fronts n [] = []
 fronts n (v ∷ vs) = cond (nat_lt n (length v.bytes)) (cond (nat_lt 0 n) (first n v ∷ []) []) (v ∷ fronts (n - length v.bytes) vs)
 
--- what stays: the rest of that one, and those behind it
+-- what stays: the chunks before the first that is longer than what is still to take go, that one is advanced, and those behind it stay
 abbrev pub rests : ℕ → List Value → List Value
 rests n [] = []
 rests n (v ∷ vs) = cond (nat_lt n (length v.bytes)) (advanced n v ∷ vs) (rests (n - length v.bytes) vs)

@@ -1,6 +1,6 @@
 ghost use Rattle.iobuf.specs.Kinds.{buf_value};
 ghost use Rattle.iobuf.specs.Values.{no_tail};
-ghost use Rattle.std.proofs.Common.{arith, rules};
+ghost use Rattle.std.proofs.Common.{refl, arith, rules};
 ghost use Rattle.lists.proofs.Parts.{length_part};
 
 use super::IoBuf;
@@ -18,7 +18,7 @@ impl Chunk for IoBuf {
 
     ghost sized = { λ s x. length_part x.place x.len s.bytes (omega arith) };
 
-    ghost tailed = { Prim.search rules };
+    ghost tailed = { λ s x. refl };
 
     ghost bounded = { Prim.search rules };
 
@@ -49,7 +49,7 @@ impl Chunk for IoBuf {
 }
 
 impl SharedChunk for IoBuf {
-    ghost tailless = { Prim.search rules };
+    ghost tailless = { λ x. refl };
 
     fn cut(&mut self, n: usize) -> Result<IoBuf, Fault> {
         self.has(n)?;

@@ -1,5 +1,5 @@
 ghost use Rattle.iobuf.specs.Kinds.{span, span_tail, span_value};
-ghost use Rattle.std.proofs.Common.{arith, rules};
+ghost use Rattle.std.proofs.Common.{refl, arith, rules};
 ghost use Rattle.lists.proofs.Parts.{length_part};
 
 use super::IoBufMut;
@@ -17,7 +17,7 @@ impl Chunk for IoBufMut {
 
     ghost sized = { λ s x. length_part x.place x.len s.bytes (omega arith) };
 
-    ghost tailed = { Prim.search rules };
+    ghost tailed = { λ s x. refl };
 
     ghost bounded = { Prim.search rules };
 
