@@ -9,9 +9,7 @@ use crate::Blanks;
 
 // The slot `i` places on from `head`, around the end of `limit` slots.
 fn place(limit: usize, head: usize, i: usize) -> usize
-    requires few { limit ≤ chunk_limit }
-    requires head { head < limit }
-    requires within { i ≤ limit }
+    requires { (limit ≤ chunk_limit) × ((head < limit) × (i ≤ limit)) }
     ensures { Place limit head i result }
 {
     let k = head + i;
@@ -20,9 +18,7 @@ fn place(limit: usize, head: usize, i: usize) -> usize
 
 // The element that lies `i` places on from `head`.
 pub(super) fn nth<T>(slots: &[T], head: usize, i: usize) -> &T
-    requires few { length slots.now ≤ chunk_limit }
-    requires head { head < length slots.now }
-    requires within { i < length slots.now }
+    requires { (length slots.now ≤ chunk_limit) × ((head < length slots.now) × (i < length slots.now)) }
     ensures { Read slots.now head i result.now }
 {
     let k = place(slots.len(), head, i);
@@ -31,9 +27,7 @@ pub(super) fn nth<T>(slots: &[T], head: usize, i: usize) -> &T
 
 // Puts `x` in the slot `i` places on from `head`, and hands out what lay there.
 pub(super) fn exchange<T>(slots: &mut [T], head: usize, i: usize, x: T) -> T
-    requires few { length slots.old ≤ chunk_limit }
-    requires head { head < length slots.old }
-    requires within { i < length slots.old }
+    requires { (length slots.old ≤ chunk_limit) × ((head < length slots.old) × (i < length slots.old)) }
     ensures value { Read slots.old head i result }
     ensures after { Replaced slots.old head i x slots.new }
 {
@@ -53,8 +47,7 @@ pub(super) fn put_back<T: Drop>(slots: &mut [T], head: usize, len: usize, x: T)
 
 // Writes `x` into the slot before `head`, and says which that is.
 pub(super) fn put_front<T: Drop>(slots: &mut [T], head: usize, x: T) -> usize
-    requires few { length slots.old ≤ chunk_limit }
-    requires head { head < length slots.old }
+    requires { (length slots.old ≤ chunk_limit) × (head < length slots.old) }
     ensures { Before slots.old head x slots.new result }
 {
     let limit = slots.len();
@@ -65,8 +58,7 @@ pub(super) fn put_front<T: Drop>(slots: &mut [T], head: usize, x: T) -> usize
 
 // Takes the first element out of the slot `head`, leaves `blank` there, and says in which slot the next one lies.
 pub(super) fn take_front<T>(slots: &mut [T], head: usize, blank: T) -> (T, usize)
-    requires few { length slots.old ≤ chunk_limit }
-    requires head { head < length slots.old }
+    requires { (length slots.old ≤ chunk_limit) × (head < length slots.old) }
     ensures popped { Popped slots.old head result.0 slots.new result.1 }
     ensures slot { slots.new ≡ slice_set slots.old head blank }
 {
