@@ -3,7 +3,6 @@ ghost use Rattle.std.specs.Prelude.{◌≡◌, ◌+◌, ◌≤◌, min, length, 
 ghost use Rattle.lists.specs.Parts.{poured};
 ghost use Rattle.store.specs.Faults.{Short, output_too_short};
 ghost use Rattle.store.specs.Sizes.{chunk_limit};
-ghost use Rattle.store.specs.declared.space.Store.{Store};
 ghost use Rattle.ring.specs.Model.{limit};
 ghost use Rattle.rules.specs.Chunks.{joined};
 ghost use Rattle.runs.specs.Calls.{handed, step};

@@ -1,8 +1,6 @@
 // Each call as a step that answers.
-ghost use Rattle.std.specs.Prelude.{◌≡◌, length};
-ghost use Rattle.store.specs.declared.space.Store.{Store};
-ghost use Rattle.ring.specs.Model.{items, limit};
-ghost use Rattle.runs.specs.Calls.{advance, append, copy_to_bytes, prepend, split_to};
+ghost use Rattle.std.specs.Prelude.{◌≡◌};
+ghost use Rattle.runs.specs.Calls.{advance, append, prepend};
 ghost use Rattle.container_calls.specs.Performed.{Copying, Splitting, Stepped, answered};
 
 use crate::answer::Answer;

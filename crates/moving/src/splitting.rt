@@ -1,4 +1,4 @@
-ghost use Rattle.std.specs.Prelude.{◌≡◌, ◌+◌, ◌<◌, ◌≤◌, [], ◌∷◌, ◌++◌, length, take, drop, nat_lt};
+ghost use Rattle.std.specs.Prelude.{◌≡◌, ◌+◌, ◌<◌, ◌≤◌, ◌++◌, length, take, drop, nat_lt};
 ghost use Rattle.store.specs.Sizes.{chunk_limit};
 ghost use Rattle.ring.specs.Model.{Sound, items, limit};
 ghost use Rattle.rules.specs.Splitting.{Ends, cut_at, fronts, rests, with_piece};

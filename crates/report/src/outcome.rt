@@ -1,5 +1,5 @@
 // What a call did, in words.
-ghost use Rattle.std.specs.Prelude.{◌≡◌, Some};
+ghost use Rattle.std.specs.Prelude.{Some};
 ghost use Rattle.report.specs.Outcomes.{accepted_words, holds_words};
 
 use crate::hex::Hex;

@@ -1,4 +1,4 @@
-ghost use Rattle.std.specs.Prelude.{◌≡◌, ◌<◌, ◌≤◌, Bool, ◌++◌, length, take, drop, MatchResult};
+ghost use Rattle.std.specs.Prelude.{◌≡◌, ◌<◌, ◌≤◌, ◌++◌, length, take, drop, MatchResult};
 ghost use Rattle.store.specs.Faults.{Unwritten};
 ghost use Rattle.ring.specs.Model.{Sound, items};
 ghost use Rattle.rules.specs.Chunks.{joined};
