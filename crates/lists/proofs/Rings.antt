@@ -1,6 +1,7 @@
 -- What a list in a ring of slots becomes when a slot is written, or an end of the list moves.
 use Rattle.std.proofs.Common.{◌≡◌, ℕ, zero, suc, ◌+◌, ◌-◌, ◌<◌, ◌≤◌, ◌≢◌, List, [], ◌∷◌, ◌++◌, length, get_or, take, drop, set, sym, refl, ap, ◌∙◌, inl, inr, add-one, arith, length-append, length-drop, length-set, length-take}
-use Rattle.std.proofs.lemmas.List.{get_or-take, get_or-drop, get_or_append_left, get_or-append_right, get_or-set_same, get_or-set_other, set-set, set-get_or, same_lists, take_more_set, take-take, get_or_default}
+use Rattle.std.proofs.Math.Seq.{take-append-add}
+use Rattle.std.proofs.lemmas.List.{take-append-le, get_or-take, get_or-drop, get_or_append_left, get_or-append_right, get_or-set_same, get_or-set_other, set-set, set-get_or, same_lists, take_more_set, take-take, get_or_default}
 use Rattle.std.proofs.lemmas.Bool.{cases_lt, cases_eq}
 use Rattle.lists.specs.Rings.{round, turned, Place}
 
@@ -49,6 +50,18 @@ module _ {T : Type 0} where
   pub length_turned : (s : List T) (h n : ℕ) → h ≤ length s → n ≤ length s → length (turned s h n) ≡ n
   unfolding round
   length_turned s h n hh hn = omega (arith, length-take n (drop h s ++ take h s), length-append (drop h s) (take h s), length-drop h s, length-take h s)
+
+  -- elements that end before the slots do
+  pub turned_within : (s : List T) (h n : ℕ) → n ≤ length (drop h s) → turned s h n ≡ take n (drop h s)
+  unfolding round
+  turned_within s h n le = take-append-le n (drop h s) (take h s) le
+
+  -- elements that go on around the end
+  pub turned_around : (s : List T) (h n : ℕ) → length (drop h s) ≤ n → turned s h n ≡ drop h s ++ take (n - length (drop h s)) (take h s)
+  unfolding round
+  turned_around s h n le =
+      let more : n ≡ length (drop h s) + (n - length (drop h s)) = omega arith in
+      ap (λ m. take m (drop h s ++ take h s)) more ∙ take-append-add (drop h s) (take h s) (n - length (drop h s))
 
   -- the element k lies k slots on
   get_or_turned : (s : List T) (h n k i : ℕ) (d : T) → h ≤ length s → n ≤ length s → k < n → Place (length s) h k i → get_or (turned s h n) k d ≡ get_or s i d

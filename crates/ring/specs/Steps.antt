@@ -2,7 +2,7 @@
 -- Before the step the list begins in the slot h of the slots s, and after it in the slot h' of s'.
 use Rattle.std.specs.Prelude.{◌≡◌, ℕ, ◌+◌, ◌-◌, ◌<◌, List, [], ◌∷◌, ◌++◌, length, slice_index_or, slice_set}
 use Rattle.lists.specs.Rings.{turned}
-use Rattle.ring.specs.Model.{Lies}
+use Rattle.ring.specs.Slots.{Lies}
 
 -- y is element i
 abbrev pub Read : {T : Type 0} → List T → ℕ → ℕ → T → Type 0
