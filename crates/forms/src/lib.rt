@@ -1,7 +1,6 @@
 #![tactic(auto)]
 
 // The forms of taking on lists of chunks, by example. A list is written r/c: readable bytes over capacity.
-ghost use Rattle.ring.specs.Model.{Sound};
 
 use iobuf::buf::IoBufMut;
 use iobuf::chunk::Chunk;
@@ -11,8 +10,6 @@ use store::space::Store;
 
 // Puts a chunk behind the others, if there is a slot for it.
 fn add<K: Chunk>(ring: &mut Ring<'_, K>, chunk: K)
-    requires { Sound ring.old }
-    ensures { Sound ring.new }
 {
     if ring.len() < ring.limit() {
         ring.push_back(chunk);
@@ -26,8 +23,6 @@ fn put(
     bytes: &[u8],
     capacity: usize,
 ) -> Result<(), Fault>
-    requires { Sound ring.old }
-    ensures { Sound ring.new }
 {
     let mut chunk = IoBufMut::reserve(store, capacity)?;
     let _ = chunk.fill(store, bytes);
@@ -37,7 +32,6 @@ fn put(
 
 // Readable bytes and capacity of the chunk `i`, if there is one.
 fn chunk<K: Chunk>(ring: &Ring<'_, K>, i: usize) -> Option<(usize, usize)>
-    requires { Sound ring.now }
 {
     if i >= ring.len() {
         return None;

@@ -1,6 +1,6 @@
 ghost use Rattle.std.specs.Prelude.{◌≡◌, ◌+◌, ◌<◌, ◌≤◌, true, [], ◌∷◌, ◌++◌, length, filter, MatchResult};
 ghost use Rattle.store.specs.Faults.{Short, no_slot};
-ghost use Rattle.ring.specs.Model.{Sound, items, limit};
+ghost use Rattle.ring.specs.Model.{items, limit};
 ghost use Rattle.rules.specs.Putting.{put};
 ghost use Rattle.taking.specs.Rings.{kept_of};
 ghost use Rattle.moving.specs.Putting.{Filled, PutIn};
@@ -26,11 +26,9 @@ fn count_kept<K: Chunk>(given: &[K]) -> usize
 
 // Puts a chunk behind the others, if it is kept.
 fn put_kept<K: Chunk>(ring: &mut Ring<'_, K>, chunk: K)
-    requires sound { Sound ring.old }
-    requires fits { kept_of K.Chunk chunk ≡ true → length (items ring.old) < limit ring.old }
+    requires { kept_of K.Chunk chunk ≡ true → length (items ring.old) < limit ring.old }
     ensures items { items ring.new ≡ put (kept_of K.Chunk chunk) (items ring.old ++ chunk ∷ []) (items ring.old) }
     ensures limit { limit ring.new ≡ limit ring.old }
-    ensures sound { Sound ring.new }
 {
     if kept(&chunk) {
         ring.push_back(chunk)
@@ -39,12 +37,10 @@ fn put_kept<K: Chunk>(ring: &mut Ring<'_, K>, chunk: K)
 
 // Fills an empty ring with those of the chunks that are kept, for which it has slots.
 fn fill<K: SharedChunk>(ring: &mut Ring<'_, K>, given: &[K])
-    requires sound { Sound ring.old }
     requires empty { length (items ring.old) ≤ 0 }
     requires fits { length (filter (kept_of K.Chunk) given.now) ≤ limit ring.old }
     ensures items { items ring.new ≡ filter (kept_of K.Chunk) given.now }
     ensures limit { limit ring.new ≡ limit ring.old }
-    ensures sound { Sound ring.new }
 {
     for chunk in given {
         put_kept(ring, *chunk);
@@ -53,7 +49,6 @@ fn fill<K: SharedChunk>(ring: &mut Ring<'_, K>, given: &[K])
 
 // Fills an empty ring with those of the chunks that are kept, in their order.
 pub fn from_chunks<K: SharedChunk>(ring: &mut Ring<'_, K>, given: &[K]) -> Result<(), Fault>
-    requires { Sound ring.old }
     ensures { Filled K.Chunk given.now result ring.old ring.new }
 {
     ask::empty(ring.len())?;
@@ -64,7 +59,6 @@ pub fn from_chunks<K: SharedChunk>(ring: &mut Ring<'_, K>, given: &[K]) -> Resul
 
 // Is there a slot for one chunk more?
 fn has_slot<K>(ring: &Ring<'_, K>) -> Result<(), Fault>
-    requires { Sound ring.now }
     ensures { MatchResult result (λ _. length (items ring.now) + 1 ≤ limit ring.now) (Short (length (items ring.now) + 1) (limit ring.now) (no_slot (length (items ring.now) + 1) (limit ring.now))) }
 {
     ask::slots(ring.len() + 1, ring.limit())
@@ -72,7 +66,6 @@ fn has_slot<K>(ring: &Ring<'_, K>) -> Result<(), Fault>
 
 // Puts a chunk behind the others. One that is not kept is accepted, and nothing happens.
 pub fn append<K: SharedChunk>(ring: &mut Ring<'_, K>, chunk: K) -> Result<(), Fault>
-    requires { Sound ring.old }
     ensures { PutIn K.Chunk chunk (items ring.old ++ chunk ∷ []) result ring.old ring.new }
 {
     if !kept(&chunk) {
@@ -85,7 +78,6 @@ pub fn append<K: SharedChunk>(ring: &mut Ring<'_, K>, chunk: K) -> Result<(), Fa
 
 // Puts a chunk in front of the others. One that is not kept is accepted, and nothing happens.
 pub fn prepend<K: SharedChunk>(ring: &mut Ring<'_, K>, chunk: K) -> Result<(), Fault>
-    requires { Sound ring.old }
     ensures { PutIn K.Chunk chunk (chunk ∷ items ring.old) result ring.old ring.new }
 {
     if !kept(&chunk) {

@@ -1,6 +1,6 @@
 ghost use Rattle.std.specs.Prelude.{◌≡◌, ◌+◌, ◌<◌, ◌≤◌, ◌++◌, length, take, drop, nat_lt};
 ghost use Rattle.store.specs.Sizes.{chunk_limit};
-ghost use Rattle.ring.specs.Model.{Sound, items, limit};
+ghost use Rattle.ring.specs.Model.{items, limit};
 ghost use Rattle.rules.specs.Splitting.{Ends, cut_at, fronts, rests, with_piece};
 ghost use Rattle.taking.specs.Rings.{bytes_in};
 ghost use Rattle.moving.specs.Splitting.{Handed, Split};
@@ -20,7 +20,6 @@ fn longer(size: usize, left: usize) -> bool
 
 // The search for the place of a cut: which chunk is longer than what is still to take of `n` bytes, and how much that is.
 fn find<K: Chunk>(ring: &Ring<'_, K>, n: usize) -> (usize, usize)
-    requires { Sound ring.now }
     ensures found { result ≡ cut_at K.Chunk.size n (items ring.now) }
     ensures within { result.0 ≤ length (items ring.now) }
 {
@@ -50,13 +49,11 @@ fn share_of(at: usize, left: usize) -> usize
 
 // The first `count` chunks go behind those of another ring.
 fn hand_over<K: Chunk>(from: &mut Ring<'_, K>, count: usize, to: &mut Ring<'_, K>)
-    requires sound { Sound from.old × Sound to.old }
     requires within { count ≤ length (items from.old) }
     requires fits { length (items to.old) + count ≤ limit to.old }
     ensures gives { items to.new ≡ items to.old ++ take count (items from.old) }
     ensures leaves { items from.new ≡ drop count (items from.old) }
     ensures limits { (limit from.new ≡ limit from.old) × (limit to.new ≡ limit to.old) }
-    ensures sound { Sound from.new × Sound to.new }
 {
     for i in 0..count {
         let chunk = from.pop_front(K::blank());
@@ -66,7 +63,6 @@ fn hand_over<K: Chunk>(from: &mut Ring<'_, K>, count: usize, to: &mut Ring<'_, K
 
 // The first `n` bytes of the first chunk, which has more, go behind the chunks of another ring.
 fn hand_piece<K: SharedChunk>(from: &mut Ring<'_, K>, n: usize, to: &mut Ring<'_, K>)
-    requires sound { Sound from.old × Sound to.old }
     requires some { 0 < n }
     requires first { 0 < length (items from.old) }
     requires longer { Ends K.Chunk.size n (items from.old) }
@@ -89,7 +85,6 @@ fn hand_out<K: SharedChunk>(
     left: usize,
     to: &mut Ring<'_, K>,
 )
-    requires sound { Sound from.old × Sound to.old }
     requires found { cut_at K.Chunk.size n (items from.old) ≡ (at, left) }
     requires within { n ≤ bytes_in K.Chunk from.old }
     requires empty { length (items to.old) ≤ 0 }
@@ -108,7 +103,6 @@ pub fn split_to<K: SharedChunk>(
     n: usize,
     target: &mut Ring<'_, K>,
 ) -> Result<(), Fault>
-    requires { Sound ring.old × Sound target.old }
     ensures { Split K.Chunk n result ring.old ring.new target.old target.new }
 {
     ask::bytes(Layer::Container, n, remaining(ring))?;

@@ -7,7 +7,7 @@ use crate::{Blanks, Ring, steps};
 impl<'a, T> Ring<'a, T> {
     // Takes the first element out, and leaves `blank` in its slot.
     pub fn pop_front(&mut self, blank: T) -> T
-        requires some { 0 < length (items self.old) }
+        requires { 0 < length (items self.old) }
         ensures items { items self.old ≡ result ∷ items self.new }
         ensures slot { self.new.slots.now ≡ first_slot self.old blank }
         ensures limit { limit self.new ≡ limit self.old }
@@ -21,7 +21,7 @@ impl<'a, T> Ring<'a, T> {
 
     // Puts `x` in the place of the element `i`, and hands that out.
     pub fn replace(&mut self, i: usize, x: T) -> T
-        requires within { i < length (items self.old) }
+        requires { i < length (items self.old) }
         ensures value { result ≡ slice_index_or (items self.old) i result }
         ensures items { items self.new ≡ slice_set (items self.old) i x }
         ensures limit { limit self.new ≡ limit self.old }
@@ -34,7 +34,7 @@ impl<'a, T> Ring<'a, T> {
 impl<'a, T: Drop> Ring<'a, T> {
     // Puts `x` behind the last element.
     pub fn push_back(&mut self, x: T)
-        requires short { length (items self.old) < limit self.old }
+        requires { length (items self.old) < limit self.old }
         ensures items { items self.new ≡ items self.old ++ x ∷ [] }
         ensures limit { limit self.new ≡ limit self.old }
     {
@@ -46,7 +46,7 @@ impl<'a, T: Drop> Ring<'a, T> {
 
     // Puts `x` before the first element.
     pub fn push_front(&mut self, x: T)
-        requires short { length (items self.old) < limit self.old }
+        requires { length (items self.old) < limit self.old }
         ensures items { items self.new ≡ x ∷ items self.old }
         ensures limit { limit self.new ≡ limit self.old }
     {

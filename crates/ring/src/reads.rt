@@ -35,7 +35,7 @@ impl<'a, T> Ring<'a, T> {
 
     // The element `i`, counted from the front.
     pub fn at(&self, i: usize) -> &T
-        requires within { i < length (items self.now) }
+        requires { i < length (items self.now) }
         ensures { result.now ≡ slice_index_or (items self.now) i result.now }
     {
         let slots = &*self.slots;

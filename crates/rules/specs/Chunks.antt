@@ -1,6 +1,5 @@
 -- A list of chunks, over their values.
-use Rattle.std.specs.Prelude.{ℕ, ◌+◌, Bool, List, [], ◌∷◌, ◌++◌, length, nat_lt}
-use Rattle.lists.specs.Sums.{sum_by}
+use Rattle.std.specs.Prelude.{ℕ, ◌+◌, Bool, List, [], ◌∷◌, ◌++◌, length, nat_lt, sum_by}
 use Rattle.iobuf.specs.Values.{Value}
 
 -- the bytes of all chunks, one after another

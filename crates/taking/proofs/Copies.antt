@@ -1,8 +1,11 @@
 -- The bytes of a list of chunks, written chunk after chunk.
-use Rattle.std.proofs.Common.{◌≡◌, ℕ, ◌+◌, ◌-◌, ◌<◌, ◌≤◌, min, List, ◌∷◌, ◌++◌, map, length, get_or, take, drop, sym, refl, ap, ◌∙◌, ⊎_elim, arith, take-add}
+use Rattle.std.proofs.Common.{◌≡◌, ℕ, ◌+◌, ◌-◌, ◌<◌, ◌≤◌, min, List, ◌∷◌, ◌++◌, map, length, get_or, take, drop, sym, ap, ◌∙◌, inl, inr, arith, length-append, length-drop, length-take}
 use borrow.Rule.Slice.PartMut.{put_mid}
-use Rattle.std.proofs.lemmas.List.{append_assoc, length-take-le, length-drop, map-append, take-append-drop, take-append-le, drop-append-le, take_at, drop_at, drop-drop, drop_more}
+use Rattle.std.proofs.Math.Seq.{take-append-add}
 use Rattle.std.proofs.lemmas.Bool.{cases_lt}
+use Rattle.std.proofs.lemmas.List.{append_assoc, length-take-le, map-append, take-append-drop, take-take, take_all, take_at, drop_more}
+use Rattle.std.proofs.lemmas.Slice.{take-put_mid, drop-put_mid}
+use Rattle.lists.proofs.Appends.{take_append}
 use Rattle.iobuf.specs.Values.{Value}
 use Rattle.rules.specs.Chunks.{joined}
 use Rattle.rules.proofs.Joined.{joined_append}
@@ -16,28 +19,30 @@ joined_split v xs i x h e =
     ∙ ap joined (map-append v (take i xs) (x ∷ drop (i + 1) xs))
     ∙ joined_append (map v (take i xs)) (map v (x ∷ drop (i + 1) xs))
 
--- the first bytes of p ++ (b ++ r), k more of them out of b
-pub taken_more : (p b r : List ℕ) (n at k : ℕ) → at ≡ min n (length p) → k ≡ min (n - at) (length b)
-    → take (at + k) (p ++ (b ++ r)) ≡ take at (p ++ (b ++ r)) ++ take k b
-taken_more p b r n at k e f =
-    take-add at k (p ++ (b ++ r)) ∙ ap (λ bs. take at (p ++ (b ++ r)) ++ bs) (⊎_elim within past (cases_lt at (length p)))
-  where
-    within : at < length p → take k (drop at (p ++ (b ++ r))) ≡ take k b
-    within h = let z : k ≡ 0 = omega arith in rw z refl
+-- the next of n bytes are those of b, and k of them are written to out[at..n]
+module _ (b r out part : List ℕ) (n at k : ℕ) (h : at ≤ n) (ho : n ≤ length out) (e : k ≡ min (n - at) (length b)) (t : part ≡ take k b ++ drop k (take (n - at) (drop at out))) where
+  -- of the bytes that are to come, those of b come first
+  next_bytes : take k b ++ take (n - (at + k)) r ≡ take (n - at) (b ++ r)
+  next_bytes =
+      let first : take k b ≡ take (n - at) b = elim (cases_lt (length b) (n - at)) [ inl lt ↦ take_all k b (omega arith) ∙ sym (take_all (n - at) b (omega arith)) | inr le ↦ ap (λ i. take i b) (omega arith) ] in
+      let more : n - (at + k) ≡ n - at - length b = omega arith in
+      ap (λ bs. bs ++ take (n - (at + k)) r) first ∙ ap (λ i. take (n - at) b ++ take i r) more ∙ sym (take_append (n - at) b r)
 
-    past : length p ≤ at → take k (drop at (p ++ (b ++ r))) ≡ take k b
-    past h = ap (take k) (drop_at p (b ++ r) at (omega arith)) ∙ take-append-le k b r (omega arith)
+  middle : length (take (n - at) (drop at out)) ≡ n - at
+  middle = length-take-le (n - at) (drop at out) (simp length-drop (omega arith))
 
--- k bytes more are written to out[at..n]
-pub copied_more : (j b out₀ out part : List ℕ) (n at k : ℕ) → at ≤ length j → at + k ≤ n → n ≤ length out₀
-    → out ≡ take at j ++ drop at out₀ → part ≡ take k b ++ drop k (take (n - at) (drop at out)) → take (at + k) j ≡ take at j ++ take k b
-    → put_mid at (n - at) out part ≡ take (at + k) j ++ drop (at + k) out₀
-copied_more j b out₀ out part n at k hj hn ho e f t =
-    let l : length (take at j) ≡ at = length-take-le at j hj in
-    let a : take at out ≡ take at j = ap (take at) e ∙ take_at (take at j) (drop at out₀) at l in
-    let d : drop at out ≡ drop at out₀ = ap (drop at) e ∙ drop_at (take at j) (drop at out₀) at l in
-    let rest = drop at out₀ in
-    let m : length (take (n - at) rest) ≡ n - at = length-take-le (n - at) rest (simp length-drop (omega arith)) in
-    let u : drop k (take (n - at) rest) ++ drop (n - at) rest ≡ drop (at + k) out₀ =
-    sym (drop-append-le k (take (n - at) rest) (drop (n - at) rest) (omega arith)) ∙ ap (drop k) (take-append-drop (n - at) rest) ∙ drop-drop k at out₀ in
-    rw (f, a, d, t) (ap (λ bs. take at j ++ bs) (append_assoc (take k b) _ _ ∙ ap (λ bs. take k b ++ bs) u) ∙ sym (append_assoc (take at j) (take k b) (drop (at + k) out₀)))
+  whole : length part ≡ n - at
+  whole = ap length t ∙ length-append (take k b) _ ∙ omega (arith, length-take k b, length-drop k (take (n - at) (drop at out)), middle)
+
+  pub copied_more : take (at + k) (put_mid at (n - at) out part) ++ take (n - (at + k)) r ≡ take at out ++ take (n - at) (b ++ r)
+  copied_more =
+      let to_end : take n (put_mid at (n - at) out part) ≡ take at out ++ part = take-put_mid at (n - at) out part n (omega (arith, whole)) (omega arith) in
+      let front : take (at + k) (take at out ++ part) ≡ take at out ++ take k part =
+      ap (λ i. take (i + k) (take at out ++ part)) (sym (length-take-le at out (omega arith))) ∙ take-append-add (take at out) part k in
+      let now : take k part ≡ take k b = ap (take k) t ∙ take_at (take k b) _ k (length-take-le k b (omega arith)) in
+      let all : take (at + k) (put_mid at (n - at) out part) ≡ take at out ++ take k b =
+      sym (take-take (at + k) n _ (omega arith)) ∙ ap (take (at + k)) to_end ∙ front ∙ ap (λ bs. take at out ++ bs) now in
+      ap (λ bs. bs ++ take (n - (at + k)) r) all ∙ append_assoc (take at out) (take k b) (take (n - (at + k)) r) ∙ ap (λ bs. take at out ++ bs) next_bytes
+
+  pub copied_past : drop n (put_mid at (n - at) out part) ≡ drop n out
+  copied_past = drop-put_mid at (n - at) out part n (omega arith) (omega arith) whole

@@ -1,8 +1,9 @@
 -- Sums over chunks, as sums over their values.
 use Rattle.std.proofs.Common.{◌≡◌, ℕ, ◌+◌, false, cond, eqb, List, [], ◌∷◌, map, length, sym, refl, ap, ◌∙◌, length-append}
-use Rattle.lists.specs.Sums.{sum_by}
+use Rattle.std.specs.List.{sum_by}
+use Rattle.std.proofs.lemmas.List.Sums.{sum_by-cons}
 use Rattle.iobuf.specs.Values.{Value}
-use Rattle.rules.specs.Chunks.{joined, remaining, capacity_of, capacity, writable}
+use Rattle.rules.specs.Chunks.{joined, remaining}
 use Rattle.rules.specs.Taking.{first_is, front_has}
 
 module _ {K : Type 0} (v : K → Value) (f : K → ℕ) where
@@ -10,15 +11,7 @@ module _ {K : Type 0} (v : K → Value) (f : K → ℕ) where
   pub sum_sizes : ((x : K) → length (v x).bytes ≡ f x) → (xs : List K) → sum_by f xs ≡ remaining (map v xs)
   sum_sizes h [] = refl
   sum_sizes h (x ∷ xs) =
-      ap (λ n. f x + n) (sum_sizes h xs) ∙ ap (λ n. n + remaining (map v xs)) (sym (h x)) ∙ sym (length-append (v x).bytes (joined (map v xs)))
-
-  pub sum_capacities : ((x : K) → capacity_of (v x) ≡ f x) → (xs : List K) → sum_by f xs ≡ capacity (map v xs)
-  sum_capacities h [] = refl
-  sum_capacities h (x ∷ xs) = ap (λ n. f x + n) (sum_capacities h xs) ∙ ap (λ n. n + capacity (map v xs)) (sym (h x))
-
-  pub sum_tails : ((x : K) → (v x).tail.count ≡ f x) → (xs : List K) → sum_by f xs ≡ writable (map v xs)
-  sum_tails h [] = refl
-  sum_tails h (x ∷ xs) = ap (λ n. f x + n) (sum_tails h xs) ∙ ap (λ n. n + writable (map v xs)) (sym (h x))
+      sum_by-cons f x xs ∙ ap (λ n. f x + n) (sum_sizes h xs) ∙ ap (λ n. n + remaining (map v xs)) (sym (h x)) ∙ sym (length-append (v x).bytes (joined (map v xs)))
 
   -- the front chunk by its size is the front chunk by its bytes
   pub first_is_front : ((x : K) → length (v x).bytes ≡ f x) → (n : ℕ) (xs : List K) → first_is f n xs ≡ front_has n (map v xs)

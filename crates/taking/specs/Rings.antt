@@ -1,10 +1,9 @@
 -- A ring of chunks as the values of its chunks in a store.
-use Rattle.std.specs.Prelude.{◌≡◌, ℕ, ◌+◌, ◌≤◌, Bool, List, ◌++◌, map, length, take, drop, nat_lt}
-use Rattle.lists.specs.Sums.{sum_by}
+use Rattle.std.specs.Prelude.{◌≡◌, ℕ, ◌+◌, ◌≤◌, Bool, List, ◌++◌, map, length, take, drop, nat_lt, sum_by}
 use Rattle.store.specs.declared.space.Store.{Store}
 use Rattle.iobuf.specs.Values.{Value}
 use Rattle.iobuf.specs.declared.chunk.Chunk.{Ghosts}
-use Rattle.ring.specs.Model.{Sound, items, limit}
+use Rattle.ring.specs.Model.{items, limit}
 use Rattle.ring.specs.declared.Ring.{Ring}
 use Rattle.rules.specs.Chunks.{joined}
 use Rattle.rules.specs.Taking.{first_is, copied_in, form_of}
@@ -29,7 +28,6 @@ first_has k n r = first_is k.size n (items r)
 pub record Left {K : Type 0} (k : Ghosts K) (rule : List Value → List Value) (b c : Ring K) : Type 0 where
   pub leaves : (s : Store) → values k s c ≡ rule (values k s b)
   pub limit : limit c ≡ limit b
-  pub sound : Sound c
 
 -- `copy_to_bytes` of n, with the store s, made c of the ring b and `is` of the output `was`
 pub record Copied {K : Type 0} (k : Ghosts K) (n : ℕ) (s : Store) (b c : Ring K) (was is : List ℕ) : Type 0 where

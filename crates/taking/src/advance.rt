@@ -1,6 +1,6 @@
 ghost use Rattle.std.specs.Prelude.{◌≡◌, ◌+◌, ◌≤◌, length, MatchResult, nat_le, nat_lt};
 ghost use Rattle.store.specs.Faults.{Short, not_enough_bytes};
-ghost use Rattle.ring.specs.Model.{Sound, items};
+ghost use Rattle.ring.specs.Model.{items};
 ghost use Rattle.rules.specs.Taking.{form_of, left_in, taken_in};
 ghost use Rattle.taking.specs.Rings.{Left, bytes_in};
 
@@ -18,14 +18,12 @@ pub fn kept<K: Chunk>(chunk: &K) -> bool
     chunk.capacity() > 0
 }
 
-// Each of the `count` chunks goes round, advanced until `n` bytes are used up, and comes back if it is still kept.
-fn go_round<K: Chunk>(ring: &mut Ring<'_, K>, count: usize, n: usize)
-    requires sound { Sound ring.old }
-    requires all { count ≡ length (items ring.old) }
+// Forms one and small: each chunk goes round, advanced until `n` bytes are used up, and comes back if it is still kept.
+pub fn advance_small_chunks<K: Chunk>(ring: &mut Ring<'_, K>, n: usize)
     ensures { Left K.Chunk (left_in Form.Small n) ring.old ring.new }
 {
     let mut due = n;
-    for i in 0..count {
+    for _ in 0..ring.len() {
         let mut chunk = ring.pop_front(K::blank());
         let k = due.min(chunk.remaining());
         let _ = chunk.advance(k);
@@ -34,15 +32,6 @@ fn go_round<K: Chunk>(ring: &mut Ring<'_, K>, count: usize, n: usize)
             ring.push_back(chunk);
         }
     }
-}
-
-// Forms one and small: chunk after chunk is advanced, then those no longer kept are dropped.
-pub fn advance_small_chunks<K: Chunk>(ring: &mut Ring<'_, K>, n: usize)
-    requires { Sound ring.old }
-    ensures { Left K.Chunk (left_in Form.Small n) ring.old ring.new }
-{
-    let count = ring.len();
-    go_round(ring, count, n);
 }
 
 // Is a chunk of that size used up, when so many bytes are to be taken?
@@ -54,8 +43,7 @@ fn used_up(size: usize, left: usize) -> bool
 
 // Form many: chunks that are used up go from the front, and the last one stays if it has more.
 pub fn advance_chunked_front<K: Chunk>(ring: &mut Ring<'_, K>, n: usize)
-    requires sound { Sound ring.old }
-    requires within { n ≤ bytes_in K.Chunk ring.old }
+    requires { n ≤ bytes_in K.Chunk ring.old }
     ensures { Left K.Chunk (left_in Form.Many n) ring.old ring.new }
 {
     let mut left = n;
@@ -87,8 +75,7 @@ pub fn form(count: usize) -> Form
 
 // Takes the first `n` bytes, which are there, in the form that is given.
 pub fn take_in<K: Chunk>(form: Form, ring: &mut Ring<'_, K>, n: usize)
-    requires sound { Sound ring.old }
-    requires within { n ≤ bytes_in K.Chunk ring.old }
+    requires { n ≤ bytes_in K.Chunk ring.old }
     ensures { Left K.Chunk (left_in form n) ring.old ring.new }
 {
     match form {
@@ -100,8 +87,7 @@ pub fn take_in<K: Chunk>(form: Form, ring: &mut Ring<'_, K>, n: usize)
 
 // Takes the first `n` bytes, which are there, by the form that the ring has now.
 pub fn consume<K: Chunk>(ring: &mut Ring<'_, K>, n: usize)
-    requires sound { Sound ring.old }
-    requires within { n ≤ bytes_in K.Chunk ring.old }
+    requires { n ≤ bytes_in K.Chunk ring.old }
     ensures { Left K.Chunk (taken_in (form_of (length (items ring.old))) n) ring.old ring.new }
 {
     if n == 0 {
@@ -113,7 +99,6 @@ pub fn consume<K: Chunk>(ring: &mut Ring<'_, K>, n: usize)
 
 // Drops the first `n` bytes.
 pub fn advance<K: Chunk>(ring: &mut Ring<'_, K>, n: usize) -> Result<(), Fault>
-    requires { Sound ring.old }
     ensures { MatchResult result (λ _. (n ≤ bytes_in K.Chunk ring.old) × Left K.Chunk (taken_in (form_of (length (items ring.old))) n) ring.old ring.new) (λ f. Short n (bytes_in K.Chunk ring.old) (not_enough_bytes Layer.Container n (bytes_in K.Chunk ring.old)) f × (ring.new ≡ ring.old)) }
 {
     ask::bytes(Layer::Container, n, remaining(ring))?;

@@ -1,6 +1,6 @@
 ghost use Rattle.std.specs.Prelude.{◌≡◌, ◌<◌, ◌≤◌, ◌++◌, length, take, drop, MatchResult};
 ghost use Rattle.store.specs.Faults.{Unwritten};
-ghost use Rattle.ring.specs.Model.{Sound, items};
+ghost use Rattle.ring.specs.Model.{items};
 ghost use Rattle.rules.specs.Chunks.{joined};
 ghost use Rattle.rules.specs.Taking.{form_of, copied_in};
 ghost use Rattle.taking.specs.Rings.{Copied, Left, bytes_in, first_has, values};
@@ -16,14 +16,12 @@ use store::space::Store;
 
 // Writes the first `n` bytes of all chunks to the front of `out`, chunk after chunk.
 fn copy_out<K: Chunk>(ring: &Ring<'_, K>, store: &Store, n: usize, out: &mut [u8])
-    requires sound { Sound ring.now }
     requires within { n ≤ bytes_in K.Chunk ring.now }
     requires fits { n ≤ length out.old }
     ensures { out.new ≡ take n (joined (values K.Chunk store.now ring.now)) ++ drop n out.old }
 {
     let mut at = 0;
-    for i in 0..ring.len() {
-        let chunk = ring.at(i);
+    for chunk in ring.iter() {
         let k = (n - at).min(chunk.remaining());
         let _ = chunk.write_out(store, k, &mut out[at..n]);
         at += k;
@@ -32,7 +30,6 @@ fn copy_out<K: Chunk>(ring: &Ring<'_, K>, store: &Store, n: usize, out: &mut [u8
 
 // Are `n` bytes, more than 0, just those of the first chunk?
 fn first_has<K: Chunk>(ring: &Ring<'_, K>, n: usize) -> bool
-    requires { Sound ring.now }
     ensures { result ≡ first_has K.Chunk n ring.now }
 {
     ring.len() > 0 && n > 0 && ring.at(0).remaining() == n
@@ -46,7 +43,6 @@ pub fn copy_to_bytes_small_chunks<K: Chunk>(
     n: usize,
     out: &mut [u8],
 ) -> (usize, bool)
-    requires sound { Sound ring.now }
     requires within { n ≤ bytes_in K.Chunk ring.now }
     requires fits { n ≤ length out.old }
     ensures answer { result ≡ (n, first_has K.Chunk n ring.now) }
@@ -58,7 +54,6 @@ pub fn copy_to_bytes_small_chunks<K: Chunk>(
 
 // Writes the first `n` bytes to the front of `out`, from the front chunk alone if it has them.
 fn copy_front<K: Chunk>(ring: &Ring<'_, K>, store: &Store, n: usize, out: &mut [u8])
-    requires sound { Sound ring.now }
     requires within { n ≤ bytes_in K.Chunk ring.now }
     requires fits { n ≤ length out.old }
     ensures { out.new ≡ take n (joined (values K.Chunk store.now ring.now)) ++ drop n out.old }
@@ -80,7 +75,6 @@ pub fn copy_to_bytes_chunked<K: Chunk>(
     n: usize,
     out: &mut [u8],
 ) -> (usize, bool)
-    requires sound { Sound ring.now }
     requires within { n ≤ bytes_in K.Chunk ring.now }
     requires fits { n ≤ length out.old }
     ensures answer { result ≡ (n, first_has K.Chunk n ring.now) }
@@ -93,8 +87,7 @@ pub fn copy_to_bytes_chunked<K: Chunk>(
 
 // Drops the front chunk.
 fn drop_front<K: Chunk>(ring: &mut Ring<'_, K>)
-    requires sound { Sound ring.old }
-    requires some { 0 < length (items ring.old) }
+    requires { 0 < length (items ring.old) }
     ensures { Left K.Chunk (drop 1) ring.old ring.new }
 {
     let _ = ring.pop_front(K::blank());
@@ -102,7 +95,6 @@ fn drop_front<K: Chunk>(ring: &mut Ring<'_, K>)
 
 // Takes the first `n` bytes, which have been copied: the front chunk goes whole, or they are taken by the form.
 fn take_copied<K: Chunk>(ring: &mut Ring<'_, K>, whole: bool, n: usize)
-    requires sound { Sound ring.old }
     requires within { n ≤ bytes_in K.Chunk ring.old }
     requires first { whole ≡ first_has K.Chunk n ring.old }
     ensures { Left K.Chunk (copied_in whole (form_of (length (items ring.old))) n) ring.old ring.new }
@@ -121,7 +113,6 @@ pub fn copy_to_bytes<K: Chunk>(
     n: usize,
     out: &mut [u8],
 ) -> Result<usize, Fault>
-    requires { Sound ring.old }
     ensures { MatchResult result (λ k. (k ≡ n) × Copied K.Chunk n store.now ring.old ring.new out.old out.new) (λ f. Unwritten Layer.Container n (bytes_in K.Chunk ring.old) (length out.old) f × (ring.new ≡ ring.old) × (out.new ≡ out.old)) }
 {
     ask::bytes(Layer::Container, n, remaining(ring))?;

@@ -1,6 +1,6 @@
 ghost use Rattle.std.specs.Prelude.{◌≡◌, length};
 ghost use Rattle.store.specs.declared.space.Store.{Store};
-ghost use Rattle.ring.specs.Model.{Sound, items};
+ghost use Rattle.ring.specs.Model.{items};
 ghost use Rattle.rules.specs.Chunks.{remaining, capacity, writable};
 ghost use Rattle.taking.specs.Rings.{values, bytes_in};
 
@@ -9,20 +9,14 @@ use ring::Ring;
 
 // How many bytes can be read.
 pub fn remaining<K: Chunk>(ring: &Ring<'_, K>) -> usize
-    requires { Sound ring.now }
     ensures sizes { result ≡ bytes_in K.Chunk ring.now }
     ensures bytes { (s : Store) → result ≡ remaining (values K.Chunk s ring.now) }
 {
-    let mut bytes = 0;
-    for i in 0..chunk_count(ring) {
-        bytes += ring.at(i).remaining();
-    }
-    bytes
+    ring.iter().map(|chunk| chunk.remaining()).sum()
 }
 
 // The same by its other name.
 pub fn len<K: Chunk>(ring: &Ring<'_, K>) -> usize
-    requires { Sound ring.now }
     ensures { (s : Store) → result ≡ remaining (values K.Chunk s ring.now) }
 {
     remaining(ring)
@@ -30,7 +24,6 @@ pub fn len<K: Chunk>(ring: &Ring<'_, K>) -> usize
 
 // How many chunks there are.
 pub fn chunk_count<K: Chunk>(ring: &Ring<'_, K>) -> usize
-    requires { Sound ring.now }
     ensures { result ≡ length (items ring.now) }
 {
     ring.len()
@@ -38,25 +31,16 @@ pub fn chunk_count<K: Chunk>(ring: &Ring<'_, K>) -> usize
 
 // How many bytes the chunks could hold.
 pub fn capacity<K: Chunk>(ring: &Ring<'_, K>) -> usize
-    requires { Sound ring.now }
     ensures { (s : Store) → result ≡ capacity (values K.Chunk s ring.now) }
 {
-    let mut places = 0;
-    for i in 0..chunk_count(ring) {
-        places += ring.at(i).capacity();
-    }
-    places
+    ring.iter().map(|chunk| chunk.capacity()).sum()
 }
 
 // How many bytes can be written.
 pub fn remaining_mut<K: Chunk>(ring: &Ring<'_, K>) -> usize
-    requires { Sound ring.now }
     ensures { (s : Store) → result ≡ writable (values K.Chunk s ring.now) }
 {
-    let mut tails = 0;
-    for i in 0..chunk_count(ring) {
-        let chunk = ring.at(i);
-        tails += chunk.capacity() - chunk.remaining();
-    }
-    tails
+    ring.iter()
+        .map(|chunk| chunk.capacity() - chunk.remaining())
+        .sum()
 }

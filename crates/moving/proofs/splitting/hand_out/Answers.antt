@@ -1,7 +1,7 @@
 use Rattle.std.proofs.Common.{◌≡◌, ℕ, ◌+◌, ◌<◌, ◌≤◌, ltb, List, [], ◌++◌, map, length, take, drop, sym, ap, ◌∙◌, subst, arith, length-append, length-take}
 use Rattle.std.proofs.lemmas.List.{append_assoc, append-nil, map-append}
 use Rattle.std.proofs.lemmas.Bool.{cond_both, cond-true, lt-ltb}
-use Rattle.lists.specs.Sums.{sum_by}
+use Rattle.std.specs.List.{sum_by}
 use Rattle.iobuf.specs.Values.{Value}
 use Rattle.ring.specs.Model.{items}
 use Rattle.rules.specs.Splitting.{fronts, rests, cut_at, with_piece, Ends}

@@ -1,51 +1,60 @@
-use Rattle.std.proofs.Common.{◌≡◌, ◌+◌, ◌-◌, ◌<◌, ◌≤◌, min, ◌++◌, map, length, take, drop, sym, ap, ◌∙◌, arith}
-use Rattle.std.proofs.lemmas.List.{take_all, length-drop, length-take-le, length-append}
-use Rattle.lists.specs.Sums.{sum_by}
-use Rattle.lists.proofs.Sums.{sum_more}
+use Rattle.std.proofs.Common.{◌≡◌, ◌-◌, min, ◌∷◌, ◌++◌, map, length, take, drop, sym, refl, ap, ◌∙◌, arith, length-append}
+use Rattle.std.proofs.lemmas.List.{append-nil, length-drop, length-take-le, take-append-drop}
 use Rattle.ring.specs.Model.{items}
 use Rattle.rules.specs.Chunks.{joined}
-use Rattle.taking.specs.Rings.{values}
 use Rattle.taking.proofs.Sums.{sum_sizes}
 use Rattle.taking.proofs.Rounds.{surely}
-use Rattle.taking.proofs.Copies.{joined_split, taken_more, copied_more}
+use Rattle.taking.proofs.Copies.{copied_more, copied_past}
 use Rattle.taking.proofs.copy.copy_out.Goals as goal
 
-pub loop-i-preserved : goal.loop-i-preserved
-loop-i-preserved g c =
+pub loop-chunk-init : goal.loop-chunk-init
+loop-chunk-init g c =
+    let m = g.K.Chunk in
+    let s = c.args.store.now in
+    let v = m.value s in
+    let xs = items c.args.ring.now in
+    let full : c.args.n - 0 ≡ c.args.n = omega arith in
+    let all : c.into_iter-chunk-iterator.result ≡ xs = c.into_iter-chunk-iterator.ensures.into_iter_gives ∙ c.iter-chunk-items.ensures.rest in (
+      omega arith,
+      omega (arith, c.requires.within, sum_sizes v m.size (g.met.K.Chunk.sized s) xs, ap (λ ys. length (joined (map v ys))) all),
+      ap (λ i. take i (joined (map v c.into_iter-chunk-iterator.result))) full ∙ ap (λ ys. take c.args.n (joined (map v ys))) all,
+      refl,
+    )
+
+pub loop-chunk-preserved : goal.loop-chunk-preserved
+loop-chunk-preserved g c =
     let m = g.K.Chunk in
     let laws = g.met.K.Chunk in
     let s = c.args.store.now in
     let v = m.value s in
-    let xs = items c.args.ring.now in
-    let i = c.loop-i.i in
-    let x = c.at-chunk.result.now in
-    let at = c.loop-i.at in
-    let k = c.min-k.result in
+    let x = c.in-Some.chunk.now in
     let n = c.args.n in
-    let h : i < length xs = omega arith in
-    let p = joined (map v (take i xs)) in
+    let at = c.loop-chunk.at in
+    let out = c.loop-chunk.out in
     let b = (v x).bytes in
-    let r = joined (map v (drop (i + 1) xs)) in
-    let more = sum_more m.size xs i x h c.at-chunk.ensures in
-    let lp = sum_sizes v m.size (laws.sized s) (take i xs) in
-    let lb = laws.sized s x in
-    let asked : c.remaining.result ≡ m.size x = c.remaining.ensures in
-    let e : at ≡ min n (length p) = c.loop-i.invariant.0 ∙ ap (min n) lp in
-    let f : k ≡ min (n - at) (length b) = c.min-k.ensures ∙ ap (min (n - at)) (asked ∙ sym lb) in
-    let j : joined (map v xs) ≡ p ++ (b ++ r) = joined_split v xs i x h c.at-chunk.ensures in
-    let fits : length (take (n - at) (drop at c.loop-i.out)) ≡ n - at = length-take-le (n - at) (drop at c.loop-i.out) (simp length-drop (omega arith)) in
+    let r = joined (map v c.next.new.self) in
+    let j : joined (map v c.loop-chunk.chunk-iterator) ≡ b ++ r = ap (λ ys. joined (map v ys)) c.in-Some.ensures.steps in
+    let size : c.remaining.result ≡ length b = c.remaining.ensures ∙ sym (laws.sized s x) in
+    let k : c.min-k.result ≡ min (n - at) (length b) = c.min-k.ensures ∙ ap (min (n - at)) size in
+    let fits : length (take (n - at) (drop at out)) ≡ n - at = length-take-le (n - at) (drop at out) (simp length-drop (omega arith)) in
     let w = surely c.write_out.result c.write_out.ensures (λ y q. omega (arith, q.0.fewer, fits)) in
-    let long : at ≤ length (joined (map v xs)) = rw j (simp length-append (omega arith)) in (
-      omega (arith, more),
-      copied_more (joined (map v xs)) b c.args.out.now c.loop-i.out c.write_out.new.out n at k long (omega arith) c.requires.fits c.loop-i.invariant.1 w.after
-          (ap (take (at + k)) j ∙ taken_more p b r n at k e f ∙ ap (λ bs. take at bs ++ take k b) (sym j)),
+    let is = copied_more b r out c.write_out.new.out n at c.min-k.result (omega arith) (omega arith) k w.after in
+    let past = copied_past b r out c.write_out.new.out n at c.min-k.result (omega arith) (omega arith) k w.after in (
+      omega arith,
+      omega (arith, k, ap length j, length-append b r),
+      is ∙ ap (λ bs. take at out ++ take (n - at) bs) (sym j) ∙ c.loop-chunk.invariant.2,
+      past ∙ c.loop-chunk.invariant.3,
     )
 
 pub returns : goal.returns
 returns g c =
-    let m = g.K.Chunk in
-    let s = c.args.store.now in
-    let xs = items c.args.ring.now in
-    let e : take c.loop-i.i xs ≡ xs = take_all _ _ (omega arith) in
-    let f : c.loop-i.at ≡ c.args.n = c.loop-i.invariant.0 ∙ ap (λ ys. min c.args.n (sum_by m.size ys)) e ∙ omega (arith, c.requires.within) in
-    c.loop-i.invariant.1 ∙ ap (λ a. take a (joined (values m s c.args.ring.now)) ++ drop a c.args.out.now) f
+    let v = g.K.Chunk.value c.args.store.now in
+    let n = c.args.n in
+    let out = c.loop-chunk.out in
+    let rest = joined (map v c.loop-chunk.chunk-iterator) in
+    let none = ap (λ ys. length (joined (map v ys))) c.in-None.ensures.steps.0 in
+    let end : c.loop-chunk.at ≡ n = omega (arith, none) in
+    let zero : n - n ≡ 0 = omega arith in
+    let written : take n out ≡ take n (joined (map v (items c.args.ring.now))) =
+    sym (append-nil (take n out)) ∙ ap (λ i. take n out ++ take i rest) (sym zero) ∙ sym (ap (λ i. take i out ++ take (n - i) rest) end) ∙ c.loop-chunk.invariant.2 in
+    sym (take-append-drop n out) ∙ ap (λ bs. bs ++ drop n out) written ∙ ap (λ bs. take n (joined (map v (items c.args.ring.now))) ++ bs) c.loop-chunk.invariant.3

@@ -1,11 +1,13 @@
-use Rattle.std.proofs.Common.{◌≡◌, min, ◌++◌, take, drop}
-use Rattle.lists.specs.Sums.{sum_by}
-use Rattle.ring.specs.Model.{items}
+use Rattle.std.proofs.Common.{◌≡◌, ◌+◌, ◌-◌, ◌≤◌, ◌++◌, map, length, take, drop}
 use Rattle.rules.specs.Chunks.{joined}
 use Rattle.taking.specs.Rings.{values}
 use Rattle.taking.proofs.copy.copy_out.Given as goal
 
-abbrev pub invariant-loop-i : goal.invariant-loop-i
-invariant-loop-i g l = let m = g.K.Chunk in
-    (l.at ≡ min l.n (sum_by m.size (take l.i (items l.ring))))
-    × (l.out ≡ take l.at (joined (values m l.store l.ring)) ++ drop l.at l.initial.out)
+-- what is written, and the bytes that are still to come, are the first n
+abbrev pub invariant-loop-chunk : goal.invariant-loop-chunk
+invariant-loop-chunk g l = let m = g.K.Chunk in
+    let rest = joined (map (m.value l.store) l.chunk-iterator) in
+    (l.at ≤ l.n)
+    × (l.n ≤ l.at + length rest)
+    × (take l.at l.out ++ take (l.n - l.at) rest ≡ take l.n (joined (values m l.store l.ring)))
+    × (drop l.n l.out ≡ drop l.n l.initial.out)
