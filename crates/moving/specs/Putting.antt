@@ -3,7 +3,7 @@ use Rattle.std.specs.Prelude.{◌≡◌, false, List, [], ◌∷◌, length, fil
 use Rattle.store.specs.Faults.{asks, no_slot, not_empty}
 use Rattle.store.specs.declared.fault.Fault.{Fault}
 use Rattle.iobuf.specs.declared.chunk.Chunk.{Ghosts}
-use Rattle.ring.specs.Model.{Sound, items, limit}
+use Rattle.ring.specs.Model.{items, limit}
 use Rattle.ring.specs.declared.Ring.{Ring}
 use Rattle.rules.specs.Putting.{put, slot_for}
 use Rattle.taking.specs.Rings.{kept_of}
@@ -12,7 +12,6 @@ use Rattle.taking.specs.Rings.{kept_of}
 pub record Holds {K : Type 0} (xs : List K) (b c : Ring K) : Type 0 where
   pub chunks : items c ≡ xs
   pub limit : limit c ≡ limit b
-  pub sound : Sound c
 
 -- the chunk x came to b, which then is c: it makes the list `more` if it is kept, and else nothing happens at all
 pub record Placed {K : Type 0} (k : Ghosts K) (x : K) (more : List K) (b c : Ring K) : Type 0 where

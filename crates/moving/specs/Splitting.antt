@@ -6,7 +6,7 @@ use Rattle.store.specs.declared.fault.Layer.TheVariants.{Container}
 use Rattle.store.specs.declared.space.Store.{Store}
 use Rattle.iobuf.specs.Values.{Value}
 use Rattle.iobuf.specs.declared.chunk.Chunk.{Ghosts}
-use Rattle.ring.specs.Model.{Sound, items, limit}
+use Rattle.ring.specs.Model.{items, limit}
 use Rattle.ring.specs.declared.Ring.{Ring}
 use Rattle.rules.specs.Splitting.{fronts, rests, share}
 use Rattle.taking.specs.Rings.{Left, bytes_in, values}
@@ -15,7 +15,6 @@ use Rattle.taking.specs.Rings.{Left, bytes_in, values}
 pub record Handed {K : Type 0} (k : Ghosts K) (gives stays : List Value → List Value) (b c t u : Ring K) : Type 0 where
   pub target : (s : Store) → values k s u ≡ values k s t ++ gives (values k s b)
   pub target_limit : limit u ≡ limit t
-  pub target_sound : Sound u
   pub rest : Left k stays b c
 
 -- `split_to` of n answered r: it asks for n bytes, for an empty target, and for slots for the share; refused, both are the same

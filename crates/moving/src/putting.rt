@@ -15,24 +15,7 @@ use taking::advance::kept;
 fn count_kept<K: Chunk>(given: &[K]) -> usize
     ensures { result ≡ length (filter (kept_of K.Chunk) given.now) }
 {
-    let mut count = 0;
-    for chunk in given {
-        if kept(chunk) {
-            count += 1;
-        }
-    }
-    count
-}
-
-// Puts a chunk behind the others, if it is kept.
-fn put_kept<K: Chunk>(ring: &mut Ring<'_, K>, chunk: K)
-    requires { kept_of K.Chunk chunk ≡ true → length (items ring.old) < limit ring.old }
-    ensures items { items ring.new ≡ put (kept_of K.Chunk chunk) (items ring.old ++ chunk ∷ []) (items ring.old) }
-    ensures limit { limit ring.new ≡ limit ring.old }
-{
-    if kept(&chunk) {
-        ring.push_back(chunk)
-    }
+    given.iter().filter(|chunk| kept(*chunk)).count()
 }
 
 // Fills an empty ring with those of the chunks that are kept, for which it has slots.
@@ -43,7 +26,9 @@ fn fill<K: SharedChunk>(ring: &mut Ring<'_, K>, given: &[K])
     ensures limit { limit ring.new ≡ limit ring.old }
 {
     for chunk in given {
-        put_kept(ring, *chunk);
+        if kept(chunk) {
+            ring.push_back(*chunk);
+        }
     }
 }
 

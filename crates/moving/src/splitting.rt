@@ -18,14 +18,21 @@ fn longer(size: usize, left: usize) -> bool
     size > left
 }
 
-// The search for the place of a cut: which chunk is longer than what is still to take of `n` bytes, and how much that is.
-fn find<K: Chunk>(ring: &Ring<'_, K>, n: usize) -> (usize, usize)
-    ensures found { result ≡ cut_at K.Chunk.size n (items ring.now) }
-    ensures within { result.0 ≤ length (items ring.now) }
+// Where the search for a cut ends: `at` chunks go whole, and `left` bytes of the next are still to take.
+#[derive(Clone, Copy)]
+struct Border {
+    at: usize,
+    left: usize,
+}
+
+// The search for the border behind `n` bytes: it ends at the first chunk that is longer than what is still to take.
+fn find<K: Chunk>(ring: &Ring<'_, K>, n: usize) -> Border
+    ensures found { (result.at, result.left) ≡ cut_at K.Chunk.size n (items ring.now) }
+    ensures within { result.at ≤ length (items ring.now) }
 {
     let mut i = 0;
     let mut left = n;
-    let (at, due) = loop {
+    let (at, left) = loop {
         if i >= ring.len() {
             break (i, left);
         }
@@ -36,15 +43,17 @@ fn find<K: Chunk>(ring: &Ring<'_, K>, n: usize) -> (usize, usize)
         left -= size;
         i += 1;
     };
-    (at, due)
+    Border { at, left }
 }
 
-// How many chunks go to the target: those before the place of the cut, and the piece if it has bytes.
-fn share_of(at: usize, left: usize) -> usize
-    requires { at ≤ chunk_limit }
-    ensures { result ≡ with_piece (at, left) }
-{
-    if left > 0 { at + 1 } else { at }
+impl Border {
+    // How many chunks go to the target: those before the border, and the piece if it has bytes.
+    fn share(self) -> usize
+        requires { self.at ≤ chunk_limit }
+        ensures { result ≡ with_piece (self.at, self.left) }
+    {
+        if self.left > 0 { self.at + 1 } else { self.at }
+    }
 }
 
 // The first `count` chunks go behind those of another ring.
@@ -55,7 +64,7 @@ fn hand_over<K: Chunk>(from: &mut Ring<'_, K>, count: usize, to: &mut Ring<'_, K
     ensures leaves { items from.new ≡ drop count (items from.old) }
     ensures limits { (limit from.new ≡ limit from.old) × (limit to.new ≡ limit to.old) }
 {
-    for i in 0..count {
+    for _ in 0..count {
         let chunk = from.pop_front(K::blank());
         to.push_back(chunk);
     }
@@ -77,23 +86,22 @@ fn hand_piece<K: SharedChunk>(from: &mut Ring<'_, K>, n: usize, to: &mut Ring<'_
     from.push_front(chunk);
 }
 
-// The first `n` bytes go to an empty ring: whole chunks up to `at`, and then a piece of `left` bytes.
+// The first `n` bytes go to an empty ring: whole chunks up to the border, and then a piece.
 fn hand_out<K: SharedChunk>(
     from: &mut Ring<'_, K>,
     n: usize,
-    at: usize,
-    left: usize,
+    border: Border,
     to: &mut Ring<'_, K>,
 )
-    requires found { cut_at K.Chunk.size n (items from.old) ≡ (at, left) }
+    requires found { cut_at K.Chunk.size n (items from.old) ≡ (border.at, border.left) }
     requires within { n ≤ bytes_in K.Chunk from.old }
     requires empty { length (items to.old) ≤ 0 }
-    requires fits { with_piece (at, left) ≤ limit to.old }
+    requires fits { with_piece (border.at, border.left) ≤ limit to.old }
     ensures { Handed K.Chunk (fronts n) (rests n) from.old from.new to.old to.new }
 {
-    hand_over(from, at, to);
-    if left > 0 {
-        hand_piece(from, left, to);
+    hand_over(from, border.at, to);
+    if border.left > 0 {
+        hand_piece(from, border.left, to);
     }
 }
 
@@ -107,8 +115,8 @@ pub fn split_to<K: SharedChunk>(
 {
     ask::bytes(Layer::Container, n, remaining(ring))?;
     ask::empty(target.len())?;
-    let (at, left) = find(ring, n);
-    ask::slots(share_of(at, left), target.limit())?;
-    hand_out(ring, n, at, left, target);
+    let border = find(ring, n);
+    ask::slots(border.share(), target.limit())?;
+    hand_out(ring, n, border, target);
     Ok(())
 }
