@@ -1,7 +1,5 @@
 #![tactic(auto)]
 
-ghost use Rattle.ring.specs.Model.{Sound};
-
 use ring::Ring;
 
 pub mod consuming;
@@ -12,5 +10,4 @@ pub mod totals;
 #[derive(Drop)]
 pub struct IoBufs<'a, K> {
     ring: Ring<'a, K>,
-    ghost sound: { Sound ring },
 }

@@ -1,4 +1,5 @@
 ghost use Rattle.std.specs.Prelude.{◌≡◌, ◌<◌, ◌≤◌, min, [], length, MatchOption, slice_index_or};
+ghost use Rattle.std.specs.Map.Iter.{ShowsInOrder, deref};
 ghost use Rattle.store.specs.Sizes.{chunk_limit};
 ghost use Rattle.store.specs.declared.space.Store.{Store};
 ghost use Rattle.ring.specs.Model.{items, limit};
@@ -8,6 +9,7 @@ ghost use Rattle.taking.specs.Rings.{bytes_in, values};
 use crate::IoBufs;
 use iobuf::chunk::Chunk;
 use ring::Ring;
+use ring::iter::Iter;
 use taking::totals;
 
 impl<'a, K: Chunk> IoBufs<'a, K> {
@@ -42,6 +44,14 @@ impl<'a, K: Chunk> IoBufs<'a, K> {
             return None;
         }
         Some(self.ring.at(i))
+    }
+
+    // The chunks, from the first to the last.
+    pub fn iter(&self) -> Iter<'_, K>
+        ensures chunks { result ≡ items self.now.ring }
+        ensures runs { ShowsInOrder (deref {X = K}) }
+    {
+        self.ring.iter()
     }
 
     // How many bytes can be read.

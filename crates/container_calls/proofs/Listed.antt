@@ -1,6 +1,7 @@
 -- A list of calls, one after another.
 use Rattle.std.proofs.Common.{◌≡◌, ℕ, ◌+◌, ◌≤◌, min, List, [], ◌∷◌, ◌++◌, map, length, take, drop, sym, refl, ap, ◌∙◌, subst, arith, length-append, take-append-drop}
 use Rattle.std.proofs.lemmas.List.{append-nil, length-map, length-take-le, map_push, take_all, take_at}
+use Rattle.std.specs.Result.{is_ok}
 use Rattle.lists.specs.Parts.{poured}
 use Rattle.lists.proofs.Parts.{length_poured, poured_none, poured_more}
 use Rattle.store.specs.Faults.{asks}
@@ -17,9 +18,8 @@ use Rattle.runs.specs.Line.{begun, behind, line_after, passed_in}
 use Rattle.runs.proofs.More.{run_more, answers_more, handed_more, answers_count}
 use Rattle.runs.proofs.Steps.{either_way, within}
 use Rattle.container_calls.specs.Makings.{LawOfRuns}
-use Rattle.container_calls.specs.Performed.{step_of, told, yes_to, target_after, output_after, Stepped, Performed}
+use Rattle.container_calls.specs.Performed.{Answer, step_of, told, target_after, output_after, Stepped, Performed}
 use Rattle.container_calls.specs.Series.{copied_bytes, CopiedWithin, Series, accepted_of, AlongTheLine}
-use Rattle.container_calls.specs.declared.answer.Answer.{Answer}
 use Rattle.container_calls.specs.declared.call.Call.{Call}
 
 -- what was handed out with the answer a to the call c stands in the target, which was empty, or in the output
@@ -144,11 +144,11 @@ all_made k f m b before calls c was noted log at i sofar h rest e =
 
 -- what was noted tells which calls were accepted
 module _ {K : Type 0} (k : Ghosts K) (steps : Store → List Step) (m : Store) (b c : Ring K) (was noted : List Answer) (before log : List ℕ) (done : Series k steps m b c was noted before log) where
-  tells : (rs : List Told) → map yes_to (map told rs) ≡ map is_accepted rs
+  tells : (rs : List Told) → map is_ok (map told rs) ≡ map is_accepted rs
   tells [] = refl
-  tells (r ∷ rs) = ap (λ b. b ∷ map yes_to (map told rs)) (tell r) ∙ ap (λ bs. is_accepted r ∷ bs) (tells rs)
+  tells (r ∷ rs) = ap (λ b. b ∷ map is_ok (map told rs)) (tell r) ∙ ap (λ bs. is_accepted r ∷ bs) (tells rs)
     where
-      tell : (a : Told) → yes_to (told a) ≡ is_accepted a
+      tell : (a : Told) → is_ok (told a) ≡ is_accepted a
       tell accepted = refl
       tell (split chunks) = refl
       tell (copied n bs) = refl
@@ -158,7 +158,7 @@ module _ {K : Type 0} (k : Ghosts K) (steps : Store → List Step) (m : Store) (
   really =
       let rs = answers (limit b) (steps m) (values k m b) in
       let count : length (map told rs) ≡ length (steps m) = length-map rs told ∙ answers_count (limit b) (steps m) (values k m b) in
-      ap (λ ns. map yes_to (take (length (steps m)) ns)) (done.given m) ∙ ap (map yes_to) (take_at (map told rs) (drop (length (steps m)) was) (length (steps m)) count) ∙ tells rs
+      ap (λ ns. map is_ok (take (length (steps m)) ns)) (done.given m) ∙ ap (map is_ok) (take_at (map told rs) (drop (length (steps m)) was) (length (steps m)) count) ∙ tells rs
 
   -- so the laws of runs speak of what was really answered and left
   pub along : LawOfRuns k → AlongTheLine k (steps m) m b c noted before log

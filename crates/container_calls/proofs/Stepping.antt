@@ -1,7 +1,8 @@
 -- What each call promises of a container, as a step on the values of its chunks.
-use Rattle.std.proofs.Common.{◌≡◌, ℕ, ◌≤◌, Bool, true, false, List, [], ◌∷◌, ◌++◌, map, length, Ok, Err, Result, sym, refl, ap, ◌∙◌, MatchResult}
+use Rattle.std.proofs.Common.{◌≡◌, ℕ, ◌≤◌, Bool, true, false, List, [], ◌∷◌, ◌++◌, map, length, Some, None, Ok, Err, Result, sym, refl, ap, ◌∙◌, MatchResult}
 use Rattle.std.proofs.lemmas.List.{map_push, nil_from_length}
 use Rattle.std.proofs.lemmas.Bool.{leb-true, false≢true}
+use Rattle.std.specs.Result.{is_ok}
 use Rattle.store.specs.Faults.{asks, not_enough_bytes, output_too_short, not_empty, no_slot, Short, Unwritten}
 use Rattle.store.specs.declared.fault.Fault.{Fault}
 use Rattle.store.specs.declared.fault.Layer.TheVariants.{Container}
@@ -21,11 +22,21 @@ use Rattle.taking.proofs.Sums.{sum_sizes}
 use Rattle.moving.specs.Putting.{Placed}
 use Rattle.moving.specs.Splitting.{Handed}
 use Rattle.runs.specs.Calls.{Call as Step, append, prepend, advance, split_to, copy_to_bytes, questions, result, leaves, decided, step}
-use Rattle.container_calls.specs.Performed.{told, answered, yes_to, target_after, output_after, Stepped, Splitting, Copying}
-use Rattle.container_calls.specs.declared.answer.Answer.{Answer}
-use Rattle.container_calls.specs.declared.answer.Answer.TheVariants.{Accepted, Copied as Counted, Refused}
+use Rattle.container_calls.specs.Performed.{Answer, told, target_after, output_after, Stepped, Splitting, Copying}
 use Rattle.container_calls.proofs.Asked.{recase, asked_bytes, asked_places, asked_then, granted, was_empty}
 use Rattle.container_calls.proofs.Chunks.{Shared, flat_is, kept_flat}
+
+-- the answer to a call that was accepted as `a`, or refused
+abbrev pub answered : Answer → Result (Unit {0}) Fault → Answer
+answered a (Ok u) = a
+answered a (Err f) = Err f
+
+-- accepted, with no bytes copied out, or with so many
+abbrev Accepted : Answer
+Accepted = Ok None
+
+abbrev Counted : ℕ → Answer
+Counted n = Ok (Some n)
 
 -- what a call left: the step's chunks, or itself
 abbrev Leaves : {K : Type 0} → Ghosts K → (Store → Step) → Ring K → Ring K → Type 0
@@ -33,7 +44,7 @@ Leaves k call b c = ((s : Store) → values k s c ≡ leaves (call s) (values k 
 
 -- a call that asked what the step asks, and left what it leaves, did the step
 pub stepped : {K : Type 0} (k : Ghosts K) (call : Store → Step) (a : Answer) (r : Result (Unit {0}) Fault) (b c : Ring K)
-    → yes_to a ≡ true → ((s : Store) → a ≡ told (result (call s) (values k s b)))
+    → is_ok a ≡ true → ((s : Store) → a ≡ told (result (call s) (values k s b)))
     → ((s : Store) → r ≡ asks (questions (limit b) (call s) (values k s b)))
     → MatchResult r (λ _. Leaves k call b c) (λ _. c ≡ b)
     → (o : Answer) → o ≡ answered a r → Stepped k call o b c
@@ -41,7 +52,7 @@ stepped k call a (Ok u) b c y t q (l, m) o e = record {
   answer = λ s. e ∙ t s ∙ ap (λ z. told (decided z (call s) (values k s b)).0) (q s);
   chunks = λ s. l s ∙ ap (λ z. (decided z (call s) (values k s b)).1) (q s);
   limit = m;
-  unmoved = λ z. absurd (false≢true (sym z ∙ ap yes_to e ∙ y));
+  unmoved = λ z. absurd (false≢true (sym z ∙ ap is_ok e ∙ y));
 }
 stepped k call a (Err f) b c y t q d o e = record {
   answer = λ s. e ∙ ap (λ z. told (decided z (call s) (values k s b)).0) (q s);
@@ -133,8 +144,8 @@ module _ {K : Type 0} (k : Ghosts K) (shows : Shared k) where
   target_limit n (Ok x) b c t u d = d.target_limit
   target_limit n (Err f) b c t u d = ap limit d.1
 
-  unmoved : (n : ℕ) (r : Result (Unit {0}) Fault) (b c t u : Ring K) → MatchResult r (λ _. Halved n b c t u) (λ _. (c ≡ b) × (u ≡ t)) → (o : Answer) → o ≡ answered Accepted r → yes_to o ≡ false → u ≡ t
-  unmoved n (Ok x) b c t u d o e z = absurd (false≢true (sym z ∙ ap yes_to e))
+  unmoved : (n : ℕ) (r : Result (Unit {0}) Fault) (b c t u : Ring K) → MatchResult r (λ _. Halved n b c t u) (λ _. (c ≡ b) × (u ≡ t)) → (o : Answer) → o ≡ answered Accepted r → is_ok o ≡ false → u ≡ t
+  unmoved n (Ok x) b c t u d o e z = absurd (false≢true (sym z ∙ ap is_ok e))
   unmoved n (Err f) b c t u d o e z = d.1
 
   pub halved : (n : ℕ) (r : Result (Unit {0}) Fault) (b c t u : Ring K)
@@ -168,10 +179,10 @@ module _ {K : Type 0} (k : Ghosts K) (shows : Shared k) where
           output = p.output ∙ ap (λ z. output_after call (decided z call (values k m b)).0 was) (q m);
         }
 
-    pub uncopied : (f : Fault) → Unwritten Container n (bytes_in k b) (length was) f → c ≡ b → is ≡ was → Copying k n m (Refused f) b c was is
+    pub uncopied : (f : Fault) → Unwritten Container n (bytes_in k b) (length was) f → c ≡ b → is ≡ was → Copying k n m (Err f) b c was is
     uncopied f h e o =
         let q = asked (Err f) (asked_places Container n (bytes_in k b) (length was) (Err f) h) in
         record {
-          container = stepped k (λ _. call) (Counted n) (Err f) b c refl (λ _. refl) q e (Refused f) refl;
+          container = stepped k (λ _. call) (Counted n) (Err f) b c refl (λ _. refl) q e (Err f) refl;
           output = o ∙ ap (λ z. output_after call (decided z call (values k m b)).0 was) (q m);
         }

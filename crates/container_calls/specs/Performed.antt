@@ -1,5 +1,6 @@
 -- A call on a container, as a step over the values of its chunks.
-use Rattle.std.specs.Prelude.{◌≡◌, ℕ, Bool, true, false, List, ◌++◌, length, drop, Ok, Err, Result}
+use Rattle.std.specs.Prelude.{◌≡◌, ℕ, false, List, ◌++◌, length, drop, Some, None, Ok, Err, Option, Result}
+use Rattle.std.specs.Result.{is_ok}
 use Rattle.store.specs.declared.fault.Fault.{Fault}
 use Rattle.store.specs.declared.space.Store.{Store}
 use Rattle.iobuf.specs.Values.{Value}
@@ -8,8 +9,6 @@ use Rattle.ring.specs.Model.{items, limit}
 use Rattle.ring.specs.declared.Ring.{Ring}
 use Rattle.taking.specs.Rings.{values}
 use Rattle.runs.specs.Calls.{Call as Step, append, prepend, advance, split_to, copy_to_bytes, Answer as Told, accepted, split, copied, refused, step}
-use Rattle.container_calls.specs.declared.answer.Answer.{Answer}
-use Rattle.container_calls.specs.declared.answer.Answer.TheVariants.{Accepted, Copied, Refused}
 use Rattle.container_calls.specs.declared.call.Call.{Call}
 use Rattle.container_calls.specs.declared.call.Call.TheVariants.{Append, Prepend, Advance, SplitTo, CopyToBytes}
 
@@ -21,23 +20,16 @@ step_of k its_limit held places s (Advance n) = advance n
 step_of k its_limit held places s (SplitTo n) = split_to n its_limit held
 step_of k its_limit held places s (CopyToBytes n) = copy_to_bytes n places
 
+-- an answer to the caller: how many bytes were copied out, if the call copies, or why it was refused
+abbrev pub Answer : Type 0
+Answer = Result (Option ℕ) Fault
+
 -- what the caller is answered; what was handed out stands elsewhere
 abbrev pub told : Told → Answer
-told accepted = Accepted
-told (split chunks) = Accepted
-told (copied n bs) = Copied n
-told (refused f) = Refused f
-
--- the answer to a call that was accepted as `a`, or refused
-abbrev pub answered : Answer → Result (Unit {0}) Fault → Answer
-answered a (Ok u) = a
-answered a (Err f) = Refused f
-
--- was it accepted?
-abbrev pub yes_to : Answer → Bool
-yes_to Accepted = true
-yes_to (Copied n) = true
-yes_to (Refused f) = false
+told accepted = Ok None
+told (split chunks) = Ok None
+told (copied n bs) = Ok (Some n)
+told (refused f) = Err f
 
 -- what a target that held the chunks ws holds after a call: what an accepted split handed out
 abbrev pub target_after : Step → Told → List Value → List Value
@@ -66,14 +58,14 @@ pub record Stepped {K : Type 0} (k : Ghosts K) (call : Store → Step) (r : Answ
   pub answer : (s : Store) → r ≡ told (step (limit b) (call s) (values k s b)).0
   pub chunks : (s : Store) → values k s c ≡ (step (limit b) (call s) (values k s b)).1
   pub limit : limit c ≡ limit b
-  pub unmoved : yes_to r ≡ false → c ≡ b
+  pub unmoved : is_ok r ≡ false → c ≡ b
 
 -- what a split by b, which then is c, did with its target t, which then is u
 pub record Splitting {K : Type 0} (k : Ghosts K) (n : ℕ) (r : Answer) (b c t u : Ring K) : Type 0 where
   pub container : Stepped k (λ _. split_to n (limit t) (length (items t))) r b c
   pub target : (s : Store) → values k s u ≡ target_after (split_to n (limit t) (length (items t))) (step (limit b) (split_to n (limit t) (length (items t))) (values k s b)).0 (values k s t)
   pub target_limit : limit u ≡ limit t
-  pub target_unmoved : yes_to r ≡ false → u ≡ t
+  pub target_unmoved : is_ok r ≡ false → u ≡ t
 
 -- what a copying with the store m did with its output
 pub record Copying {K : Type 0} (k : Ghosts K) (n : ℕ) (m : Store) (r : Answer) (b c : Ring K) (was is : List ℕ) : Type 0 where
@@ -85,5 +77,5 @@ pub record Performed {K : Type 0} (k : Ghosts K) (q : Call K) (m : Store) (r : A
   pub container : Stepped k (λ s. step_of k (limit t) (length (items t)) (length was) s q) r b c
   pub target : (s : Store) → values k s u ≡ target_after (step_of k (limit t) (length (items t)) (length was) s q) (step (limit b) (step_of k (limit t) (length (items t)) (length was) s q) (values k s b)).0 (values k s t)
   pub target_limit : limit u ≡ limit t
-  pub target_unmoved : yes_to r ≡ false → u ≡ t
+  pub target_unmoved : is_ok r ≡ false → u ≡ t
   pub output : is ≡ output_after (step_of k (limit t) (length (items t)) (length was) m q) (step (limit b) (step_of k (limit t) (length (items t)) (length was) m q) (values k m b)).0 was

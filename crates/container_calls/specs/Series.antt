@@ -1,5 +1,6 @@
 -- A list of calls on a container.
-use Rattle.std.specs.Prelude.{◌≡◌, ℕ, ◌≤◌, Bool, List, [], ◌++◌, map, length, take, drop}
+use Rattle.std.specs.Prelude.{◌≡◌, ℕ, ◌≤◌, Bool, List, [], ◌++◌, map, length, take, drop, Some, None, Ok, Err}
+use Rattle.std.specs.Result.{is_ok}
 use Rattle.lists.specs.Parts.{poured}
 use Rattle.store.specs.declared.space.Store.{Store}
 use Rattle.iobuf.specs.declared.chunk.Chunk.{Ghosts}
@@ -10,22 +11,20 @@ use Rattle.taking.specs.Rings.{values}
 use Rattle.runs.specs.Calls.{Call as Step, run, answers, all_handed}
 use Rattle.runs.specs.Line.{begun, behind, line_after, passed_in}
 use Rattle.container_calls.specs.Makings.{Made}
-use Rattle.container_calls.specs.Performed.{step_of, told, yes_to}
-use Rattle.container_calls.specs.declared.answer.Answer.{Answer}
-use Rattle.container_calls.specs.declared.answer.Answer.TheVariants.{Accepted, Copied, Refused}
+use Rattle.container_calls.specs.Performed.{Answer, step_of, told}
 use Rattle.container_calls.specs.declared.call.Call.{Call}
 
 -- the bytes that a copying left in its output
 abbrev pub copied_bytes : Answer → List ℕ → List ℕ
-copied_bytes Accepted out = []
-copied_bytes (Copied n) out = take n out
-copied_bytes (Refused f) out = []
+copied_bytes (Ok None) out = []
+copied_bytes (Ok (Some n)) out = take n out
+copied_bytes (Err f) out = []
 
 -- they are there
 abbrev pub CopiedWithin : Answer → List ℕ → Type 0
-CopiedWithin Accepted out = Unit {0}
-CopiedWithin (Copied n) out = n ≤ length out
-CopiedWithin (Refused f) out = Unit {0}
+CopiedWithin (Ok None) out = Unit {0}
+CopiedWithin (Ok (Some n)) out = n ≤ length out
+CopiedWithin (Err f) out = Unit {0}
 
 -- a list of calls as steps, each with an empty target of that limit and with an output of so many places
 abbrev pub steps_of : {K : Type 0} → Ghosts K → (its_limit places : ℕ) → Store → List (Call K) → List Step
@@ -40,7 +39,7 @@ pub record Series {K : Type 0} (k : Ghosts K) (steps : Store → List Step) (m :
 
 -- which of the calls were accepted, by the answers that stand noted
 abbrev pub accepted_of : List Step → List Answer → List Bool
-accepted_of steps noted = map yes_to (take (length steps) noted)
+accepted_of steps noted = map is_ok (take (length steps) noted)
 
 -- and so, if the container was straight from its making, with the bytes bs: those left are the line behind its mark, and those in the log the bytes that the mark passed in the calls that hand out; the line is drawn by the answers that were really given
 abbrev pub AlongTheLine : {K : Type 0} → Ghosts K → List Step → Store → Ring K → Ring K → List Answer → List ℕ → List ℕ → Type 0

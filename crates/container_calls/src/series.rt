@@ -39,7 +39,7 @@ fn log_copied(answer: Answer, out: &[u8], log: &mut [u8], at: usize) -> usize
     ensures log { log.new ≡ poured at (copied_bytes answer out.now) log.old }
     ensures at { result ≡ min (length log.old) (at + length (copied_bytes answer out.now)) }
 {
-    let Answer::Copied(count) = answer else {
+    let Ok(Some(count)) = answer else {
         return at;
     };
     at + pour(&mut log[at..], &out[0..count])

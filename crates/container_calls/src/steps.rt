@@ -1,40 +1,31 @@
-// Each call as a step that answers.
-ghost use Rattle.std.specs.Prelude.{◌≡◌};
+// Each call as a step that answers; a refusal is passed up as it is.
 ghost use Rattle.runs.specs.Calls.{advance, append, prepend};
-ghost use Rattle.container_calls.specs.Performed.{Copying, Splitting, Stepped, answered};
+ghost use Rattle.container_calls.specs.Performed.{Copying, Splitting, Stepped};
 
 use crate::answer::Answer;
 use bufs::IoBufs;
 use iobuf::chunk::{Chunk, SharedChunk};
-use store::fault::Fault;
 use store::space::Store;
-
-// The answer to a call that gives no count.
-fn answer(r: Result<(), Fault>) -> Answer
-    ensures { result ≡ answered Answer.Accepted r }
-{
-    match r {
-        Ok(()) => Answer::Accepted,
-        Err(fault) => Answer::Refused(fault),
-    }
-}
 
 pub(crate) fn append<K: SharedChunk>(bufs: &mut IoBufs<'_, K>, chunk: K) -> Answer
     ensures { Stepped K.Chunk (λ s. append (K.Chunk.value s chunk).bytes) result bufs.old.ring bufs.new.ring }
 {
-    answer(bufs.append(chunk))
+    bufs.append(chunk)?;
+    Ok(None)
 }
 
 pub(crate) fn prepend<K: SharedChunk>(bufs: &mut IoBufs<'_, K>, chunk: K) -> Answer
     ensures { Stepped K.Chunk (λ s. prepend (K.Chunk.value s chunk).bytes) result bufs.old.ring bufs.new.ring }
 {
-    answer(bufs.prepend(chunk))
+    bufs.prepend(chunk)?;
+    Ok(None)
 }
 
 pub(crate) fn advance<K: SharedChunk>(bufs: &mut IoBufs<'_, K>, n: usize) -> Answer
     ensures { Stepped K.Chunk (λ _. advance n) result bufs.old.ring bufs.new.ring }
 {
-    answer(bufs.advance(n))
+    bufs.advance(n)?;
+    Ok(None)
 }
 
 pub(crate) fn split_to<K: SharedChunk>(
@@ -44,7 +35,8 @@ pub(crate) fn split_to<K: SharedChunk>(
 ) -> Answer
     ensures { Splitting K.Chunk n result bufs.old.ring bufs.new.ring target.old.ring target.new.ring }
 {
-    answer(bufs.split_to(n, target))
+    bufs.split_to(n, target)?;
+    Ok(None)
 }
 
 pub(crate) fn copy_to_bytes<K: SharedChunk>(
@@ -55,8 +47,6 @@ pub(crate) fn copy_to_bytes<K: SharedChunk>(
 ) -> Answer
     ensures { Copying K.Chunk n store.now result bufs.old.ring bufs.new.ring out.old out.new }
 {
-    match bufs.copy_to_bytes(store, n, out) {
-        Ok(count) => Answer::Copied(count),
-        Err(fault) => Answer::Refused(fault),
-    }
+    let count = bufs.copy_to_bytes(store, n, out)?;
+    Ok(Some(count))
 }

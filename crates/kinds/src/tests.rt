@@ -1,7 +1,6 @@
 use crate::laws::perform_rising;
 use crate::rising::Rising;
 use bufs::IoBufs;
-use container_calls::answer::Answer;
 use container_calls::call::Call;
 use container_calls::perform::perform;
 use container_calls::series::perform_all;
@@ -65,11 +64,11 @@ fn puts_chunks_in(rt: HostRuntime) -> Result<(), Fail> {
     bufs.from_chunks(&[Rising::new(7, 0)?, Rising::new(254, 4)?])?;
     let back = Call::Append(Rising::new(10, 2)?);
     let done = perform(back, &mut bufs, &store, &mut target, &mut []);
-    assert_eq!(rt; done, Answer::Accepted);
+    assert_eq!(rt; done, Ok(None));
     let front = Call::Prepend(Rising::new(5, 1)?);
     let done = perform(front, &mut bufs, &store, &mut target, &mut []);
-    assert_eq!(rt; done, Answer::Accepted);
-    let Answer::Refused(fault) = perform(back, &mut bufs, &store, &mut target, &mut []) else {
+    assert_eq!(rt; done, Ok(None));
+    let Err(fault) = perform(back, &mut bufs, &store, &mut target, &mut []) else {
         return Err(Fail::new("a slot too many"));
     };
     assert_eq!(rt; told(fault), [4, 3, 4, 3]);
@@ -94,11 +93,11 @@ fn takes_bytes_out(rt: HostRuntime) -> Result<(), Fail> {
     let mut target = IoBufs::new(&mut lent);
     bufs.from_chunks(&[Rising::new(254, 4)?, Rising::new(10, 3)?])?;
     let done = perform_rising(Call::SplitTo(2), &mut bufs, &store, &mut target, &mut out);
-    assert_eq!(rt; done, Answer::Accepted);
+    assert_eq!(rt; done, Ok(None));
     holds(&rt, &target, &store, 0, &[254, 255])?;
     holds(&rt, &bufs, &store, 0, &[0, 1])?;
     let done = perform_rising(Call::Advance(1), &mut bufs, &store, &mut target, &mut out);
-    assert_eq!(rt; done, Answer::Accepted);
+    assert_eq!(rt; done, Ok(None));
     holds(&rt, &bufs, &store, 0, &[1])?;
     let done = perform_rising(
         Call::CopyToBytes(2),
@@ -107,7 +106,7 @@ fn takes_bytes_out(rt: HostRuntime) -> Result<(), Fail> {
         &mut target,
         &mut out,
     );
-    assert_eq!(rt; done, Answer::Copied(2));
+    assert_eq!(rt; done, Ok(Some(2)));
     assert_eq!(rt; out, [1, 10, 9]);
     holds(&rt, &bufs, &store, 0, &[11, 12])?;
     assert_eq!(rt; [target.chunk_count(), bufs.chunk_count()], [1, 1]);
@@ -129,7 +128,7 @@ fn performs_a_list(rt: HostRuntime) -> Result<(), Fail> {
     ];
     let mut lent = [Rising::blank(); 2];
     let mut out = [0; 4];
-    let mut answers = [Answer::Accepted; 5];
+    let mut answers = [Ok(None); 5];
     let mut log = [9; 6];
     perform_all(
         &calls,
@@ -140,15 +139,15 @@ fn performs_a_list(rt: HostRuntime) -> Result<(), Fail> {
         &mut answers,
         &mut log,
     )?;
-    let refused = Answer::Refused(Fault {
+    let refused = Err(Fault {
         refusal: Refusal::NotEnoughBytes,
         layer: Layer::Container,
         asked: 3,
         available: 2,
     });
-    assert_eq!(rt; answers[2], Answer::Accepted);
+    assert_eq!(rt; answers[2], Ok(None));
     assert_eq!(rt; answers[3], refused);
-    assert_eq!(rt; answers[4], Answer::Copied(1));
+    assert_eq!(rt; answers[4], Ok(Some(1)));
     assert_eq!(rt; log, [20, 21, 255, 0, 9, 9]);
     holds(&rt, &bufs, &store, 0, &[1])
 }

@@ -1,16 +1,10 @@
-use Rattle.std.proofs.Common.{◌≡◌, ◌+◌, ◌-◌, min, [], ◌∷◌, ◌++◌, length, sym, refl, ap, ◌∙◌, arith}
+use Rattle.std.proofs.Common.{◌≡◌, ◌+◌, ◌-◌, min, [], ◌∷◌, ◌++◌, length, sym, ap, ◌∙◌, arith}
 use Rattle.std.proofs.lemmas.List.{length_push}
 use Rattle.iobuf.specs.Values.{Advanced}
 use Rattle.ring.specs.Model.{items, limit}
-use Rattle.taking.proofs.Rounds.{surely, kept_is, rotated, rotate_keep, rotate_drop, rotate_start, rotate_end}
+use Rattle.taking.proofs.Rounds.{surely, kept_is, rotated, rotate_keep, rotate_drop}
 use Rattle.taking.proofs.advance.advance_small_chunks.Goals as goal
 use Rattle.taking.proofs.advance.advance_small_chunks.Goals.{then-kept, else-kept}
-
-pub loop-init : goal.loop-init
-loop-init g c = (omega (arith, c.len-end.ensures), refl, λ s. rotate_start (g.K.Chunk.value s) _ c.args.n (items c.args.ring.now) (omega (arith, c.len-end.ensures)))
-
-pub pop_front-chunk-requires : goal.pop_front-chunk-requires
-pop_front-chunk-requires g c = omega (arith, c.loop.invariant.0)
 
 pub loop-preserved : goal.loop-preserved
 loop-preserved g c =
@@ -46,8 +40,3 @@ loop-preserved g c =
           ))
     ]
 
-pub returns : goal.returns
-returns g c = record {
-  leaves = λ s. sym (rotate_end (g.K.Chunk.value s) _ c.loop.due (items c.loop.ring) (omega arith)) ∙ c.loop.invariant.2 s;
-  limit = c.loop.invariant.1;
-}

@@ -1,5 +1,5 @@
-use Rattle.std.proofs.Common.{◌≡◌, ◌-◌, min, ◌∷◌, ◌++◌, map, length, take, drop, sym, refl, ap, ◌∙◌, arith, length-append}
-use Rattle.std.proofs.lemmas.List.{append-nil, length-drop, length-take-le, take-append-drop}
+use Rattle.std.proofs.Common.{◌≡◌, ◌-◌, min, ◌++◌, map, length, take, drop, sym, refl, ap, ◌∙◌, arith, length-append}
+use Rattle.std.proofs.lemmas.List.{length-drop, length-take-le}
 use Rattle.ring.specs.Model.{items}
 use Rattle.rules.specs.Chunks.{joined}
 use Rattle.taking.proofs.Sums.{sum_sizes}
@@ -46,15 +46,3 @@ loop-chunk-preserved g c =
       past ∙ c.loop-chunk.invariant.3,
     )
 
-pub returns : goal.returns
-returns g c =
-    let v = g.K.Chunk.value c.args.store.now in
-    let n = c.args.n in
-    let out = c.loop-chunk.out in
-    let rest = joined (map v c.loop-chunk.chunk-iterator) in
-    let none = ap (λ ys. length (joined (map v ys))) c.in-None.ensures.steps.0 in
-    let end : c.loop-chunk.at ≡ n = omega (arith, none) in
-    let zero : n - n ≡ 0 = omega arith in
-    let written : take n out ≡ take n (joined (map v (items c.args.ring.now))) =
-    sym (append-nil (take n out)) ∙ ap (λ i. take n out ++ take i rest) (sym zero) ∙ sym (ap (λ i. take i out ++ take (n - i) rest) end) ∙ c.loop-chunk.invariant.2 in
-    sym (take-append-drop n out) ∙ ap (λ bs. bs ++ drop n out) written ∙ ap (λ bs. take n (joined (map v (items c.args.ring.now))) ++ bs) c.loop-chunk.invariant.3
