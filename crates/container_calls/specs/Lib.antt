@@ -1,3 +1,4 @@
 pub mod Performed
 pub mod Makings
+pub mod Logs
 pub mod Series

@@ -1,18 +1,19 @@
 // A list of calls, performed one after another.
 ghost use Rattle.std.specs.Prelude.{◌≡◌, ◌+◌, ◌≤◌, min, length, MatchResult, OnOk};
-ghost use Rattle.lists.specs.Parts.{poured};
 ghost use Rattle.store.specs.Faults.{Short, output_too_short};
 ghost use Rattle.store.specs.Sizes.{chunk_limit};
 ghost use Rattle.ring.specs.Model.{limit};
 ghost use Rattle.rules.specs.Chunks.{joined};
 ghost use Rattle.runs.specs.Calls.{handed, step};
-ghost use Rattle.taking.specs.Rings.{bytes_in, values};
+ghost use Rattle.taking.specs.Rings.{values};
+ghost use Rattle.container_calls.specs.Logs.{Logged};
 ghost use Rattle.container_calls.specs.Makings.{LawOfRuns};
 ghost use Rattle.container_calls.specs.Performed.{Stepped, step_of};
 ghost use Rattle.container_calls.specs.Series.{AlongTheLine, CopiedWithin, Series, copied_bytes, steps_of};
 
 use crate::answer::Answer;
 use crate::call::Call;
+use crate::log::Log;
 use crate::perform::{laws, perform};
 use bufs::IoBufs;
 use iobuf::chunk::{Chunk, SharedChunk};
@@ -21,51 +22,56 @@ use store::fault::{Fault, Layer};
 use store::space::Store;
 use store::space::calls::pour;
 
-// The bytes of a share go into the log behind the first `at`, as far as it reaches. Says how many it then has.
-fn log_share<K: Chunk>(share: &mut IoBufs<'_, K>, store: &Store, log: &mut [u8], at: usize) -> usize
-    requires { at ≤ length log.old }
-    ensures log { log.new ≡ poured at (joined (values K.Chunk store.now share.old.ring)) log.old }
-    ensures at { result ≡ min (length log.old) (at + bytes_in K.Chunk share.old.ring) }
-{
-    let n = share.remaining().min(log.len() - at);
-    let _ = share.copy_to_bytes(store, n, &mut log[at..]);
-    at + n
+impl Log<'_> {
+    // Writes the bytes of a share behind those that there are.
+    fn share<K: Chunk>(&mut self, share: &mut IoBufs<'_, K>, store: &Store)
+        ensures { Logged (joined (values K.Chunk store.now share.old.ring)) self.old self.new }
+    {
+        let at = self.len;
+        let bytes = &mut *self.bytes;
+        let n = share.remaining().min(bytes.len() - at);
+        let _ = share.copy_to_bytes(store, n, &mut bytes[at..]);
+        self.len = at + n;
+    }
+
+    // Writes bytes behind those that there are.
+    fn write(&mut self, more: &[u8])
+        ensures { Logged more.now self.old self.new }
+    {
+        let at = self.len;
+        let bytes = &mut *self.bytes;
+        self.len = at + pour(&mut bytes[at..], more);
+    }
 }
 
-// The bytes that were copied out go into the log in the same way.
-fn log_copied(answer: Answer, out: &[u8], log: &mut [u8], at: usize) -> usize
-    requires within { at ≤ length log.old }
-    requires copied { CopiedWithin answer out.now }
-    ensures log { log.new ≡ poured at (copied_bytes answer out.now) log.old }
-    ensures at { result ≡ min (length log.old) (at + length (copied_bytes answer out.now)) }
+// The bytes that were copied out.
+fn copied(answer: Answer, out: &[u8]) -> &[u8]
+    requires { CopiedWithin answer out.now }
+    ensures { result.now ≡ copied_bytes answer out.now }
 {
-    let Ok(Some(count)) = answer else {
-        return at;
-    };
-    at + pour(&mut log[at..], &out[0..count])
+    match answer {
+        Ok(Some(count)) => &out[0..count],
+        Ok(None) | Err(_) => &[],
+    }
 }
 
-// One call of a list, with an empty target over the slots. What it hands out goes into the log behind the first `at`
-// bytes; the answer comes with how many the log then has.
+// One call of a list, with an empty target over the slots. What it hands out goes into the log.
 fn turn<K: SharedChunk>(
     call: Call<K>,
     bufs: &mut IoBufs<'_, K>,
     store: &Store,
     slots: &mut [K],
     out: &mut [u8],
-    log: &mut [u8],
-    at: usize,
-) -> (Answer, usize)
-    requires { at ≤ length log.old }
-    ensures container { Stepped K.Chunk (λ s. step_of K.Chunk (min chunk_limit (length slots.old)) 0 (length out.old) s call) result.0 bufs.old.ring bufs.new.ring }
-    ensures log { log.new ≡ poured at (handed (step (limit bufs.old.ring) (step_of K.Chunk (min chunk_limit (length slots.old)) 0 (length out.old) store.now call) (values K.Chunk store.now bufs.old.ring)).0) log.old }
-    ensures at { result.1 ≡ min (length log.old) (at + length (handed (step (limit bufs.old.ring) (step_of K.Chunk (min chunk_limit (length slots.old)) 0 (length out.old) store.now call) (values K.Chunk store.now bufs.old.ring)).0)) }
+    log: &mut Log<'_>,
+) -> Answer
+    ensures container { Stepped K.Chunk (λ s. step_of K.Chunk (min chunk_limit (length slots.old)) 0 (length out.old) s call) result bufs.old.ring bufs.new.ring }
+    ensures log { Logged (handed (step (limit bufs.old.ring) (step_of K.Chunk (min chunk_limit (length slots.old)) 0 (length out.old) store.now call) (values K.Chunk store.now bufs.old.ring)).0) log.old log.new }
 {
     let mut target = IoBufs::new(slots);
     let answer = perform(call, bufs, store, &mut target, out);
-    let at = log_share(&mut target, store, log, at);
-    let at = log_copied(answer, out, log, at);
-    (answer, at)
+    log.share(&mut target, store);
+    log.write(copied(answer, out));
+    answer
 }
 
 // The calls one after another: notes each answer, and in the log what was handed out.
@@ -83,11 +89,9 @@ fn in_turn<K: SharedChunk>(
     ensures line { AlongTheLine K.Chunk (steps_of K.Chunk (min chunk_limit (length slots.old)) (length out.old) store.now calls.now) store.now bufs.old.ring bufs.new.ring answers.new log.old log.new }
 {
     laws::<K>();
-    let mut at = 0;
-    for i in 0..calls.len() {
-        let (answer, next) = turn(calls[i], bufs, store, slots, out, log, at);
-        answers[i] = answer;
-        at = next;
+    let mut log = Log { bytes: log, len: 0 };
+    for (i, call) in calls.iter().enumerate() {
+        answers[i] = turn(*call, bufs, store, slots, out, &mut log);
     }
 }
 
