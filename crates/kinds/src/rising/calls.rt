@@ -49,7 +49,7 @@ impl Chunk for Rising {
         self.remaining()
     }
 
-    #[tactic(auto, using(crate::specs::Patterns::written_next))]
+    #[tactic(auto, using(crate::specs::Patterns::written_next, crate::specs::Patterns::all_written))]
     fn pour_out(&self, _store: &Store, out: &mut [u8]) {
         let n = self.count.min(out.len());
         let front = &mut out[0..n];
