@@ -13,7 +13,7 @@ pub struct IoBuf {
     ghost within: { place + len ≤ store_size },
 }
 
-// The `capacity` bytes of a store from the first readable one on, of which the others can be written.
+// The `capacity` bytes of a store from where the readable ones begin: those behind them can be written.
 #[derive(Drop)]
 pub struct IoBufMut {
     readable: IoBuf,

@@ -19,9 +19,11 @@ pub trait Chunk: Sized + Drop {
 
     ghost tail: { Self → Tail };
 
+    // How many bytes it has.
     fn remaining(&self) -> usize
         ensures { result ≡ size self.now };
 
+    // How many bytes it has, and can be written behind them.
     fn capacity(&self) -> usize
         ensures { result ≡ size self.now + (tail self.now).count };
 

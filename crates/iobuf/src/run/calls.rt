@@ -13,6 +13,7 @@ use store::fault::Fault;
 use store::space::Store;
 
 impl Run {
+    // A run of `count` bytes, each of them `byte`.
     pub fn new(byte: u8, count: usize) -> Result<Run, Fault>
         ensures { MatchResult result (λ x. (x.byte ≡ byte) × (x.count ≡ count)) (Short count store_size (run_too_long count)) }
     {

@@ -13,6 +13,7 @@ use store::fault::Fault;
 use store::space::Store;
 
 impl Rising {
+    // The `count` bytes that count up from `start`.
     pub fn new(start: u8, count: usize) -> Result<Rising, Fault>
         ensures { MatchResult result (λ x. (x.start ≡ start) × (x.count ≡ count)) (Short count store_size (run_too_long count)) }
     {

@@ -10,6 +10,7 @@ use crate::fault::Fault;
 use crate::sizes::STORE_SIZE;
 
 impl Store {
+    // A store of zeros, none of them given out.
     pub fn new() -> Store
         ensures bytes { result.bytes ≡ replicate store_size 0 }
         ensures used { result.used ≡ 0 }
