@@ -1,9 +1,9 @@
 -- Laws of bytes that count up.
-use Rattle.std.specs.Prelude.{◌≡◌, ℕ, zero, suc, ◌+◌, ◌-◌, ◌%◌, ◌<◌, List, [], ◌∷◌, ◌++◌, min, length, take, drop, slice_index, slice_set, refl}
-use Rattle.std.proofs.Common.{sym, ap, ◌∙◌, add-zero, inl, inr, arith, length-take}
+use Rattle.std.specs.Prelude.{◌≡◌, ℕ, zero, suc, ◌+◌, ◌-◌, ◌%◌, ◌<◌, List, [], ◌∷◌, ◌++◌, min, length, take, drop, slice_set, refl}
+use Rattle.std.proofs.Common.{sym, ap, ◌∙◌, add-zero, arith}
 use Rattle.std.proofs.Math.Nat.{sub-zero}
-use Rattle.std.proofs.lemmas.List.{append_assoc, append-nil, drop_all, drop_more, set_at}
-use Rattle.std.proofs.lemmas.Bool.{cases_lt}
+use Rattle.std.proofs.lemmas.List.{drop_more, set_at}
+use Rattle.std.proofs.lemmas.Grind.{common_steps}
 use Rattle.iobuf.specs.Values.{over}
 use Rattle.kinds.specs.Pattern.{rising}
 
@@ -49,24 +49,10 @@ rising_more s (suc n) =
 pub written_next : (s i b : ℕ) (out is : List ℕ) → is ≡ rising s i ++ drop i out → i < length out → b ≡ (s + i) % 256
     → slice_set is i b ≡ rising s (i + 1) ++ drop (i + 1) out
 written_next s i b out is e l h =
-    let front = rising s i in
     let more : suc i ≡ i + 1 = omega arith in
-    ap (λ ys. slice_set ys i b) (e ∙ ap (λ ys. front ++ ys) (drop_more out i 0 l))
-    ∙ set_at front (slice_index out i) (drop (i + 1) out) b i (length_rising s i)
-    ∙ sym (append_assoc front (b ∷ []) (drop (i + 1) out))
-    ∙ ap (λ ys. ys ++ drop (i + 1) out) (ap (λ x. front ++ x ∷ []) h ∙ sym (rising_more s i) ∙ ap (rising s) more)
+    grind (arith, common_steps, length_rising, drop_more out i 0 l, rising_more s i, set_at)
 
 -- behind the n places that were written, the output is what it was
 pub all_written : (s count n i : ℕ) (out is : List ℕ) → n ≡ min count (length out) → i ≡ n → is ≡ rising s i ++ drop i (take n out)
     → is ++ drop n out ≡ over (rising s count) out
-all_written s count n i out is least e h =
-    let none : drop i (take n out) ≡ [] = drop_all i (take n out) (omega (arith, length-take n out)) in
-    let front : is ≡ rising s i = h ∙ ap (λ ys. rising s i ++ ys) none ∙ append-nil (rising s i) in
-    let first : take (length out) (rising s count) ≡ rising s i = take_rising (length out) s count i (omega arith) in
-    let long : length (rising s count) ≡ count = length_rising s count in
-    let behind : drop n out ≡ drop (length (rising s count)) out =
-    elim (cases_lt (length out) count) [
-      | inl lt ↦ drop_all n out (omega arith) ∙ sym (drop_all (length (rising s count)) out (omega arith))
-      | inr le ↦ ap (λ k. drop k out) (omega arith)
-    ] in
-    cc
+all_written s count n i out is least e h = grind (arith, common_steps, take_rising, length_rising)
