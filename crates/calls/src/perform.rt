@@ -29,8 +29,7 @@ pub fn perform(
             Ok(0)
         }
         Call::Cut { n } => {
-            let piece = page.cut(n)?;
-            piece.write_out(store, n, out)?;
+            page.cut(n)?.pour_out(store, out);
             Ok(n)
         }
         Call::Advance { n } => {

@@ -26,7 +26,7 @@ pub record Span : Type 0 where
   pub capacity : ℕ
 
 abbrev pub span : IoBufMut → Span
-span x = record { place = x.place; len = x.len; capacity = x.capacity }
+span x = record { place = x.readable.place; len = x.readable.len; capacity = x.capacity }
 
 -- where the writable bytes of a span begin
 abbrev pub behind : Span → ℕ

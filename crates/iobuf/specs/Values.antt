@@ -28,6 +28,10 @@ advanced n v = record { bytes = drop n v.bytes; tail = v.tail }
 abbrev pub first : ℕ → Value → Value
 first n v = flat (take n v.bytes)
 
+-- the bytes bs over the front of an output, as far as both reach
+abbrev pub over : List ℕ → List ℕ → List ℕ
+over bs out = take (length out) bs ++ drop (length bs) out
+
 -- `advance` of n turned x into y
 pub record Advanced {K : Type 0} (value : Store → K → Value) (size : K → ℕ) (n : ℕ) (x y : K) : Type 0 where
   pub within : n ≤ size x

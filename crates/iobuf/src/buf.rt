@@ -1,7 +1,6 @@
-ghost use Rattle.std.specs.Prelude.{◌+◌, ◌≤◌};
+ghost use Rattle.std.specs.Prelude.{◌≡◌, ◌+◌, ◌≤◌};
 ghost use Rattle.store.specs.Sizes.{store_size};
 
-mod parts;
 pub mod shared;
 pub mod steps;
 pub mod writable;
@@ -14,12 +13,20 @@ pub struct IoBuf {
     ghost within: { place + len ≤ store_size },
 }
 
-// The `capacity` bytes of a store from `place` on: the first `len` can be read, the others written.
+// The `capacity` bytes of a store from where the readable ones begin: those behind them can be written.
 #[derive(Drop)]
 pub struct IoBufMut {
-    place: usize,
-    len: usize,
+    readable: IoBuf,
     capacity: usize,
-    ghost within: { place + capacity ≤ store_size },
-    ghost filled: { len ≤ capacity },
+    ghost within: { readable.place + capacity ≤ store_size },
+    ghost filled: { readable.len ≤ capacity },
+}
+
+impl IoBufMut {
+    // Gives up the writable bytes: what can be read is an IoBuf from now on.
+    pub fn freeze(self) -> IoBuf
+        ensures { result ≡ self.readable }
+    {
+        self.readable
+    }
 }

@@ -2,7 +2,6 @@ ghost use Rattle.std.specs.Prelude.{◌≤◌};
 ghost use Rattle.store.specs.Sizes.{store_size};
 
 pub mod calls;
-mod parts;
 
 // One byte value, as often as `count` says. It needs no bytes of a store.
 #[derive(Clone, Copy)]

@@ -2,7 +2,6 @@ ghost use Rattle.std.specs.Prelude.{◌≤◌};
 ghost use Rattle.store.specs.Sizes.{store_size};
 
 pub mod calls;
-mod parts;
 
 // Bytes that count up by one from `start`, and after 255 go on with 0. It needs no bytes of a store.
 #[derive(Clone, Copy)]

@@ -34,11 +34,11 @@ pub struct Fault {
     pub available: usize,
 }
 
-impl Refusal {
-    pub fn words(self) -> &'static str
-        ensures { result.now ≡ refusal_words self }
-    {
-        match self {
+impl fmt::Display for Refusal {
+    ghost output = { λ x. Some (refusal_words x) };
+
+    fn fmt<W: fmt::Write>(&self, f: &mut fmt::Formatter<W>) -> fmt::Result {
+        f.write_str(match self {
             Refusal::NotEnoughBytes => "not enough bytes",
             Refusal::OutputTooShort => "output too short",
             Refusal::NotEmpty => "container to be filled not empty",
@@ -48,19 +48,19 @@ impl Refusal {
             Refusal::BeyondCapacity => "beyond the capacity",
             Refusal::LengthsDiffer => "lengths differ",
             Refusal::RunTooLong => "run too long",
-        }
+        })
     }
 }
 
-impl Layer {
-    pub fn words(self) -> &'static str
-        ensures { result.now ≡ layer_words self }
-    {
-        match self {
+impl fmt::Display for Layer {
+    ghost output = { λ x. Some (layer_words x) };
+
+    fn fmt<W: fmt::Write>(&self, f: &mut fmt::Formatter<W>) -> fmt::Result {
+        f.write_str(match self {
             Layer::Store => "store",
             Layer::Chunk => "chunk",
             Layer::Container => "container",
-        }
+        })
     }
 }
 
@@ -85,14 +85,16 @@ impl fmt::Display for Fault {
 
     fn fmt<W: fmt::Write>(&self, f: &mut fmt::Formatter<W>) -> fmt::Result {
         let number = self.number();
-        let why = self.refusal.words();
         let level = self.level();
-        let layer = self.layer.words();
-        let asked = self.asked;
-        let available = self.available;
+        let Fault {
+            refusal,
+            layer,
+            asked,
+            available,
+        } = *self;
         write!(
             f,
-            "refused {number} ({why}), layer {level} ({layer}): asked {asked}, available {available}"
+            "refused {number} ({refusal}), layer {level} ({layer}): asked {asked}, available {available}"
         )
     }
 }

@@ -1,3 +1,4 @@
+ghost use Rattle.std.specs.Prelude.{◌≡◌, ◌+◌, ◌-◌, min};
 ghost use Rattle.iobuf.specs.Kinds.{buf_value};
 ghost use Rattle.iobuf.specs.Values.{no_tail};
 ghost use Rattle.std.proofs.Common.{refl, arith, rules};
@@ -5,9 +6,22 @@ ghost use Rattle.lists.proofs.Parts.{length_part};
 
 use super::IoBuf;
 use crate::chunk::{Chunk, SharedChunk};
-use store::ask;
-use store::fault::{Fault, Layer};
 use store::space::Store;
+use store::space::calls::pour;
+
+impl IoBuf {
+    // What is left without the first `n` bytes.
+    pub(super) fn rest(self, n: usize) -> IoBuf
+        ensures place { result.place ≡ self.place + min n self.len }
+        ensures len { result.len ≡ self.len - n }
+    {
+        let n = n.min(self.len);
+        IoBuf {
+            place: self.place + n,
+            len: self.len - n,
+        }
+    }
+}
 
 impl Chunk for IoBuf {
     ghost value = { buf_value };
@@ -30,17 +44,13 @@ impl Chunk for IoBuf {
         self.remaining()
     }
 
-    fn write_out(&self, store: &Store, n: usize, out: &mut [u8]) -> Result<(), Fault> {
-        self.has(n)?;
-        ask::places(Layer::Chunk, n, out.len())?;
-        self.write_first(store, n, out);
-        Ok(())
+    fn pour_out(&self, store: &Store, out: &mut [u8]) {
+        pour(out, store.view(self.place, self.len).unwrap());
     }
 
-    fn advance(&mut self, n: usize) -> Result<(), Fault> {
-        self.has(n)?;
+    #[tactic(auto, using(crate::proofs::Fronts::part_rest))]
+    fn skip(&mut self, n: usize) {
         *self = self.rest(n);
-        Ok(())
     }
 
     fn blank() -> Self {
@@ -51,10 +61,10 @@ impl Chunk for IoBuf {
 impl SharedChunk for IoBuf {
     ghost tailless = { λ x. refl };
 
-    fn cut(&mut self, n: usize) -> Result<IoBuf, Fault> {
-        self.has(n)?;
-        let whole = *self;
-        *self = whole.rest(n);
-        Ok(whole.first(n))
+    fn first(self, n: usize) -> IoBuf {
+        IoBuf {
+            place: self.place,
+            len: n.min(self.len),
+        }
     }
 }

@@ -9,6 +9,13 @@ use store::fault::Fault;
 use store::space::Store;
 
 impl IoBufMut {
+    // How many bytes can be written behind those that can be read.
+    fn room(&self) -> usize
+        ensures { result ≡ room (span self.now) }
+    {
+        self.capacity - self.readable.len
+    }
+
     // A chunk of the next `c` bytes of the store, none of them readable yet.
     pub fn reserve(store: &mut Store, c: usize) -> Result<IoBufMut, Fault>
         ensures chunk { MatchResult result (λ x. span x ≡ fresh (start store.old.used) c) (Short c (free store.old.used) (no_store_room c (free store.old.used))) }
@@ -16,8 +23,7 @@ impl IoBufMut {
     {
         let place = store.reserve(c)?;
         Ok(IoBufMut {
-            place,
-            len: 0,
+            readable: IoBuf { place, len: 0 },
             capacity: c,
         })
     }
@@ -29,8 +35,9 @@ impl IoBufMut {
         ensures bytes { store.new.bytes ≡ laid (behind (span self.old)) (take (room (span self.old)) s.now) store.old.bytes }
         ensures used { store.new.used ≡ store.old.used }
     {
-        let count = store.write(self.place + self.len, self.capacity - self.len, s);
-        self.len += count;
+        let behind = self.readable.place + self.readable.len;
+        let count = store.write(behind, self.room(), s);
+        self.readable.len += count;
         count
     }
 
@@ -39,8 +46,8 @@ impl IoBufMut {
         ensures count { result ≡ min n (room (span self.old)) }
         ensures chunk { span self.new ≡ grown result (span self.old) }
     {
-        let count = n.min(self.capacity - self.len);
-        self.len += count;
+        let count = n.min(self.room());
+        self.readable.len += count;
         count
     }
 
@@ -49,18 +56,7 @@ impl IoBufMut {
         ensures count { result ≡ min n (span self.old).capacity }
         ensures chunk { span self.new ≡ sized result (span self.old) }
     {
-        self.len = n.min(self.capacity);
-        self.len
-    }
-
-    // Gives up the writable bytes: what can be read is an IoBuf from now on.
-    pub fn freeze(self) -> IoBuf
-        ensures place { result.place ≡ self.place }
-        ensures len { result.len ≡ self.len }
-    {
-        IoBuf {
-            place: self.place,
-            len: self.len,
-        }
+        self.readable.len = n.min(self.capacity);
+        self.readable.len
     }
 }

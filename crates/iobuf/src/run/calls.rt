@@ -9,10 +9,11 @@ ghost use Rattle.std.proofs.Common.{refl, rules};
 use super::Run;
 use crate::chunk::{Chunk, SharedChunk};
 use store::ask;
-use store::fault::{Fault, Layer};
+use store::fault::Fault;
 use store::space::Store;
 
 impl Run {
+    // A run of `count` bytes, each of them `byte`.
     pub fn new(byte: u8, count: usize) -> Result<Run, Fault>
         ensures { MatchResult result (λ x. (x.byte ≡ byte) × (x.count ≡ count)) (Short count store_size (run_too_long count)) }
     {
@@ -42,17 +43,17 @@ impl Chunk for Run {
         self.remaining()
     }
 
-    fn write_out(&self, _store: &Store, n: usize, out: &mut [u8]) -> Result<(), Fault> {
-        self.has(n)?;
-        ask::places(Layer::Chunk, n, out.len())?;
-        self.write_first(n, out);
-        Ok(())
+    fn pour_out(&self, _store: &Store, out: &mut [u8]) {
+        let n = self.count.min(out.len());
+        out[0..n].fill(self.byte);
     }
 
-    fn advance(&mut self, n: usize) -> Result<(), Fault> {
-        self.has(n)?;
-        *self = self.rest(n);
-        Ok(())
+    #[tactic(auto, using(crate::proofs::Fronts::run_rest))]
+    fn skip(&mut self, n: usize) {
+        *self = Run {
+            byte: self.byte,
+            count: self.count.saturating_sub(n),
+        };
     }
 
     fn blank() -> Self {
@@ -63,10 +64,11 @@ impl Chunk for Run {
 impl SharedChunk for Run {
     ghost tailless = { λ x. refl };
 
-    fn cut(&mut self, n: usize) -> Result<Run, Fault> {
-        self.has(n)?;
-        let whole = *self;
-        *self = whole.rest(n);
-        Ok(whole.first(n))
+    #[tactic(auto, using(crate::proofs::Fronts::run_first))]
+    fn first(self, n: usize) -> Run {
+        Run {
+            byte: self.byte,
+            count: n.min(self.count),
+        }
     }
 }

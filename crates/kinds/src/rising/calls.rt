@@ -1,4 +1,4 @@
-ghost use Rattle.std.specs.Prelude.{◌≡◌, MatchResult};
+ghost use Rattle.std.specs.Prelude.{◌≡◌, ◌+◌, ◌%◌, MatchResult};
 ghost use Rattle.store.specs.Faults.{Short, run_too_long};
 ghost use Rattle.store.specs.Sizes.{store_size};
 ghost use Rattle.iobuf.specs.Values.{no_tail};
@@ -9,15 +9,23 @@ ghost use Rattle.std.proofs.Common.{refl, rules};
 use super::Rising;
 use iobuf::chunk::{Chunk, SharedChunk};
 use store::ask;
-use store::fault::{Fault, Layer};
+use store::fault::Fault;
 use store::space::Store;
 
 impl Rising {
+    // The `count` bytes that count up from `start`.
     pub fn new(start: u8, count: usize) -> Result<Rising, Fault>
         ensures { MatchResult result (λ x. (x.start ≡ start) × (x.count ≡ count)) (Short count store_size (run_too_long count)) }
     {
         ask::run_length(count)?;
         Ok(Rising { start, count })
+    }
+
+    // The byte `i`, or the one that would stand there.
+    fn byte_at(self, i: usize) -> u8
+        ensures { result ≡ (self.start + i) % 256 }
+    {
+        self.start.wrapping_add((i % 256) as u8)
     }
 }
 
@@ -42,17 +50,21 @@ impl Chunk for Rising {
         self.remaining()
     }
 
-    fn write_out(&self, _store: &Store, n: usize, out: &mut [u8]) -> Result<(), Fault> {
-        self.has(n)?;
-        ask::places(Layer::Chunk, n, out.len())?;
-        self.write_first(n, out);
-        Ok(())
+    #[tactic(auto, using(crate::specs::Patterns::written_next, crate::specs::Patterns::all_written))]
+    fn pour_out(&self, _store: &Store, out: &mut [u8]) {
+        let n = self.count.min(out.len());
+        let front = &mut out[0..n];
+        for (i, place) in front.iter_mut().enumerate() {
+            *place = self.byte_at(i);
+        }
     }
 
-    fn advance(&mut self, n: usize) -> Result<(), Fault> {
-        self.has(n)?;
-        *self = self.rest(n);
-        Ok(())
+    #[tactic(auto, using(crate::specs::Patterns::drop_rising))]
+    fn skip(&mut self, n: usize) {
+        *self = Rising {
+            start: self.byte_at(n),
+            count: self.count.saturating_sub(n),
+        };
     }
 
     fn blank() -> Self {
@@ -63,10 +75,11 @@ impl Chunk for Rising {
 impl SharedChunk for Rising {
     ghost tailless = { λ x. refl };
 
-    fn cut(&mut self, n: usize) -> Result<Rising, Fault> {
-        self.has(n)?;
-        let whole = *self;
-        *self = whole.rest(n);
-        Ok(whole.first(n))
+    #[tactic(auto, using(crate::specs::Patterns::take_rising))]
+    fn first(self, n: usize) -> Rising {
+        Rising {
+            start: self.start,
+            count: n.min(self.count),
+        }
     }
 }

@@ -10,6 +10,7 @@ use crate::fault::Fault;
 use crate::sizes::STORE_SIZE;
 
 impl Store {
+    // A store of zeros, none of them given out.
     pub fn new() -> Store
         ensures bytes { result.bytes ≡ replicate store_size 0 }
         ensures used { result.used ≡ 0 }
@@ -43,6 +44,7 @@ impl Store {
 
     // Pours the front of `s` into the `n` bytes from `place` on, and says how much.
     // A stretch that does not lie within the store takes nothing.
+    #[tactic(auto, using(crate::proofs::Pours::laid_outside, crate::proofs::Pours::laid_within))]
     pub fn write(&mut self, place: usize, n: usize, s: &[u8]) -> usize
         ensures count { result ≡ min (length s.now) (fitting place n) }
         ensures bytes { self.new.bytes ≡ laid place (take (fitting place n) s.now) self.old.bytes }
@@ -51,16 +53,6 @@ impl Store {
         if !within(place, n) {
             return 0;
         }
-        self.pour_at(place, n, s)
-    }
-
-    // Hands the `n` bytes from `place` on to the function that pours.
-    fn pour_at(&mut self, place: usize, n: usize, s: &[u8]) -> usize
-        requires { place + n ≤ store_size }
-        ensures count { result ≡ min (length s.now) n }
-        ensures bytes { self.new.bytes ≡ laid place (take n s.now) self.old.bytes }
-        ensures used { self.new.used ≡ self.old.used }
-    {
         pour(&mut self.bytes[place..place + n], s)
     }
 }
@@ -78,7 +70,6 @@ pub fn pour(stretch: &mut [u8], s: &[u8]) -> usize
     ensures after { stretch.new ≡ take result s.now ++ drop result stretch.old }
 {
     let n = s.len().min(stretch.len());
-    let front = &mut stretch[0..n];
-    front.copy_from_slice(&s[0..n]);
+    stretch[0..n].copy_from_slice(&s[0..n]);
     n
 }
