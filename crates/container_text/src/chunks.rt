@@ -37,3 +37,19 @@ pub fn chunk_word(word: &[u8]) -> Option<Spelled>
     let count = decimal(count)?;
     Some(Spelled { byte, count })
 }
+
+#[cfg(test)]
+mod tests {
+    use super::*;
+    use iobuf::chunk::Chunk;
+
+    #[test]
+    fn becomes_a_run(rt: HostRuntime) {
+        let page = Spelled {
+            byte: 255,
+            count: 12,
+        };
+        let size = Run::try_from(page).map(|run| run.remaining());
+        assert_eq!(rt; size, Ok(12));
+    }
+}

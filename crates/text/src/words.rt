@@ -7,7 +7,7 @@ ghost use Rattle.text.specs.Words.{blank, text_of, first_word, past_word, name_o
 fn is_blank(b: u8) -> bool
     ensures { result ≡ blank b }
 {
-    b == b' ' || b == b'\t' || b == b'\r'
+    matches!(b, b' ' | b'\t' | b'\r')
 }
 
 // The line without its remark.
@@ -58,5 +58,18 @@ impl<'a> Iterator for Words<'a> {
         }
         self.0 = rest;
         Some(word)
+    }
+}
+
+#[cfg(test)]
+mod tests {
+    use super::*;
+
+    #[test]
+    fn goes_over_words(rt: HostRuntime) {
+        let mut words = Words(b"\trun  00 1\r");
+        assert_eq!(rt; words.next(), Some(b"run".as_slice()));
+        assert_eq!(rt; words.next(), Some(b"00".as_slice()));
+        assert_eq!(rt; words.count(), 1);
     }
 }
