@@ -51,6 +51,7 @@ impl<'a> Iterator for Words<'a> {
 
     ghost remaining = { item_count (λ s. words s.0.now) };
 
+    #[tactic(auto, using(crate::proofs::Listed::words_more))]
     fn next(&mut self) -> Option<&'a [u8]> {
         let (word, rest) = next_word(self.0);
         if word.is_empty() {
