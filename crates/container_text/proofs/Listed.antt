@@ -1,61 +1,27 @@
--- The words of a text one by one, and the chunks that they write.
-use Rattle.std.proofs.Common.{◌≡◌, ℕ, zero, suc, ◌<◌, ◌≤◌, Bool, true, false, cond, List, [], ◌∷◌, ◌++◌, length, Ok, Err, Result, sym, refl, ap, append_assoc, append-nil, arith, length-drop, length-take}
+-- Chunks that words write, read one by one.
+use Rattle.std.proofs.Common.{◌≡◌, ℕ, List, [], ◌∷◌, ◌++◌, Ok, Err, Result, sym, refl, ap, append_assoc, append-nil}
 use Rattle.std.specs.Option.{ok_or}
-use Rattle.std.specs.List.{prefix_len}
-use Rattle.std.proofs.lemmas.Bool.{eqb-false, true≢false}
 use Rattle.container_text.specs.Chunks.{chunk_of}
-use Rattle.container_text.specs.Lines.{then, chunks_of}
-use Rattle.text.specs.Words.{blank, solid, behind, first_word, past_word}
-use Rattle.container_text.specs.Words.{ended, first_words, words}
+use Rattle.container_text.specs.Lines.{chunks_of}
 use Rattle.container_text.specs.declared.chunks.Spelled.{Spelled}
-use Rattle.container_text.specs.declared.lines.Unreadable.{Unreadable}
-use Rattle.container_text.specs.declared.lines.Unreadable.TheVariants.{NoChunk}
-
-pub past_shorter : (text : List ℕ) → ended text ≡ false → length (past_word text) < length text
-past_shorter text e =
-    let u : List ℕ = behind blank text in
-    omega (arith, eqb-false (length (first_word text)) 0 e, length-take (prefix_len solid u) u, length-drop (prefix_len solid u) u, length-drop (prefix_len blank text) text)
-
--- as many words as there are bytes are all of them
-same_words : (j k : ℕ) (text : List ℕ) → length text ≤ j → length text ≤ k → first_words j text ≡ first_words k text
-same_words zero zero text l m = refl
-same_words zero (suc k) [] l m = refl
-same_words zero (suc k) (b ∷ bs) l m = absurd (omega arith)
-same_words (suc j) zero [] l m = refl
-same_words (suc j) zero (b ∷ bs) l m = absurd (omega arith)
-same_words (suc j) (suc k) text l m = by (ended text) refl (same_words j k (past_word text))
-  where
-    by : (t : Bool) → ended text ≡ t → (length (past_word text) ≤ j → length (past_word text) ≤ k → first_words j (past_word text) ≡ first_words k (past_word text)) → cond t [] (first_word text ∷ first_words j (past_word text)) ≡ cond t [] (first_word text ∷ first_words k (past_word text))
-    by true e same = refl
-    by false e same =
-        let shorter : length (past_word text) < length text = past_shorter text e in
-        ap (λ ws. first_word text ∷ ws) (same (omega arith) (omega arith))
-
-words_more : (text : List ℕ) → ended text ≡ false → words text ≡ first_word text ∷ words (past_word text)
-words_more [] e = absurd (true≢false e)
-words_more (b ∷ bs) e =
-    let text : List ℕ = b ∷ bs in
-    let shorter : length (past_word text) < length text = past_shorter text e in
-    rw e (ap (λ ws. first_word text ∷ ws) (same_words (length bs) (length (past_word text)) (past_word text) (omega arith) (omega arith)))
-
-words_none : (text : List ℕ) → ended text ≡ true → words text ≡ []
-words_none [] e = refl
-words_none (b ∷ bs) e = rw e
+use Rattle.text.specs.Arguments.{then}
+use Rattle.text.specs.declared.unreadable.Unreadable.{Unreadable}
+use Rattle.text.specs.declared.unreadable.Unreadable.TheVariants.{NoChunk}
 
 -- the chunks xs, and behind them those that are still to be read
 abbrev pub joined_to : List Spelled → Result (List Spelled) Unreadable → Result (List Spelled) Unreadable
 joined_to xs r = then r (λ ys. Ok (xs ++ ys))
 
-module _ (xs : List Spelled) (text : List ℕ) where
-  pub joined_more : (x : Spelled) → ended text ≡ false → ok_or (chunk_of (first_word text)) NoChunk ≡ Ok x → joined_to xs (chunks_of (words text)) ≡ joined_to (xs ++ x ∷ []) (chunks_of (words (past_word text)))
-  joined_more x e w = rw (words_more text e, w) (by (chunks_of (words (past_word text))))
+module _ (xs : List Spelled) where
+  pub joined_more : (word : List ℕ) (words : List (List ℕ)) (x : Spelled) → ok_or (chunk_of word) NoChunk ≡ Ok x → joined_to xs (chunks_of (word ∷ words)) ≡ joined_to (xs ++ x ∷ []) (chunks_of words)
+  joined_more word words x w = rw w (by (chunks_of words))
     where
       by : (r : Result (List Spelled) Unreadable) → joined_to xs (then r (λ ys. Ok (x ∷ ys))) ≡ joined_to (xs ++ x ∷ []) r
       by (Ok ys) = ap (λ l. Ok l) (sym (append_assoc xs (x ∷ []) ys))
       by (Err d) = refl
 
-  pub joined_bad : (d : Unreadable) → ended text ≡ false → ok_or (chunk_of (first_word text)) NoChunk ≡ Err d → joined_to xs (chunks_of (words text)) ≡ Err d
-  joined_bad d e w = rw (words_more text e, w)
+  pub joined_bad : (word : List ℕ) (words : List (List ℕ)) (d : Unreadable) → ok_or (chunk_of word) NoChunk ≡ Err d → joined_to xs (chunks_of (word ∷ words)) ≡ Err d
+  joined_bad word words d w = rw w
 
-  pub joined_all : ended text ≡ true → joined_to xs (chunks_of (words text)) ≡ Ok xs
-  joined_all e = rw (words_none text e) (ap (λ l. Ok l) (append-nil xs))
+  pub joined_all : joined_to xs (chunks_of []) ≡ Ok xs
+  joined_all = ap (λ l. Ok l) (append-nil xs)

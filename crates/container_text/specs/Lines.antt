@@ -1,39 +1,17 @@
 -- Calls as lines of text.
-use Rattle.std.specs.Prelude.{◌≡◌, ℕ, cond, List, [], ◌∷◌, Some, None, Ok, Err, vec_items, codes, Option, Result, ◌≢◌}
+use Rattle.std.specs.Prelude.{◌≡◌, ℕ, cond, List, [], ◌∷◌, Ok, Err, vec_items, codes, Option, Result, ◌≢◌}
 use Rattle.std.specs.Option.{ok_or}
 use Rattle.std.specs.Str.{bytes_eq}
 use Rattle.container_calls.specs.declared.call.Call.{Call}
 use Rattle.container_calls.specs.declared.call.Call.TheVariants.{Append, Prepend, Advance, SplitTo, CopyToBytes}
 use Rattle.container_text.specs.Chunks.{chunk_of}
-use Rattle.text.specs.Numbers.{decimal_of}
-use Rattle.text.specs.Words.{text_of, first_word, past_word}
-use Rattle.container_text.specs.Words.{ended, words}
+use Rattle.text.specs.Arguments.{then, lone, last_number, read}
+use Rattle.text.specs.Words.{first_word, past_word, words}
 use Rattle.container_text.specs.declared.chunks.Spelled.{Spelled}
 use Rattle.container_text.specs.declared.lines.Line.{Line}
 use Rattle.container_text.specs.declared.lines.Line.TheVariants as line
-use Rattle.container_text.specs.declared.lines.Unreadable.{Unreadable}
-use Rattle.container_text.specs.declared.lines.Unreadable.TheVariants.{UnknownCall, NoChunk, NoNumber, TooMuch, NoMemory}
-
--- what is told of a line that cannot be read
-abbrev pub said : Unreadable → List ℕ
-said UnknownCall = codes "not a call"
-said NoChunk = codes "a chunk as BYTExCOUNT is missing"
-said NoNumber = codes "a decimal number below 2^64 is missing"
-said TooMuch = codes "more words than the call takes"
-said NoMemory = codes "no memory"
-
--- goes on with what was read, or stops at the first error
-abbrev pub then : {X Y : Type 0} → Result X Unreadable → (X → Result Y Unreadable) → Result Y Unreadable
-then (Ok x) go = go x
-then (Err e) go = Err e
-
--- what was read, if no word stands behind it
-abbrev pub lone : {X : Type 0} → X → List ℕ → Result X Unreadable
-lone x text = cond (ended text) (Ok x) (Err TooMuch)
-
--- the decimal number that is the only word of a text
-abbrev pub last_number : List ℕ → Result ℕ Unreadable
-last_number text = then (ok_or (decimal_of (first_word text)) NoNumber) (λ n. lone n (past_word text))
+use Rattle.text.specs.declared.unreadable.Unreadable.{Unreadable}
+use Rattle.text.specs.declared.unreadable.Unreadable.TheVariants.{UnknownCall, NoChunk, NoMemory}
 
 -- the chunk that is the only word of a text
 abbrev pub last_chunk : List ℕ → Result Spelled Unreadable
@@ -67,7 +45,7 @@ spoken_as name text =
 
 -- what a line says: nothing without a word, else what its first word names
 abbrev pub line_of : List ℕ → Result (Option Spoken) Unreadable
-line_of line = cond (ended (text_of line)) (Ok None) (then (spoken_as (first_word (text_of line)) (past_word (text_of line))) (λ x. Ok (Some x)))
+line_of line = read spoken_as line
 
 -- a line as it is kept says that
 abbrev pub spoken : Line → Spoken

@@ -1,16 +1,15 @@
 // Calls as lines of text.
-ghost use Rattle.std.specs.Prelude.{◌≡◌, Some, vec_items};
+ghost use Rattle.std.specs.Prelude.{◌≡◌, vec_items};
 ghost use Rattle.std.specs.Option.{option_map};
-ghost use Rattle.std.specs.Str.{bytes_eq};
-ghost use Rattle.container_text.specs.Lines.{said, lone, last_number, last_chunk, chunks_of, named, spoken, spoken_as, line_of, Reads};
-ghost use Rattle.container_text.specs.Words.{words};
+ghost use Rattle.container_text.specs.Lines.{last_chunk, chunks_of, named, spoken, spoken_as, line_of, Reads};
+ghost use Rattle.text.specs.Words.{words};
 
 use crate::chunks::{Spelled, chunk_word};
 use container_calls::call::Call;
 use std::alloc::Global;
-use std::fmt;
-use text::numbers::decimal;
-use text::words::{next_word, text_of};
+use text::arguments::{alone, last_number};
+use text::unreadable::Unreadable;
+use text::words::{Words, next_word, split_name};
 
 // What a line says.
 #[derive(PartialEq, Eq, Debug, Drop)]
@@ -18,64 +17,6 @@ pub enum Line {
     // The container is filled with these chunks.
     FromChunks(Vec<Spelled>),
     Call(Call<Spelled>),
-}
-
-// Why a line cannot be read.
-#[derive(Clone, Copy, PartialEq, Eq, Debug)]
-pub enum Unreadable {
-    // The first word names no call.
-    UnknownCall,
-    // Where a chunk should be stands no word `BYTExCOUNT`.
-    NoChunk,
-    // Where a number should be stands no word of decimal digits below 2^64.
-    NoNumber,
-    // Words stand behind the call.
-    TooMuch,
-    // There is no memory for the chunks of the line.
-    NoMemory,
-}
-
-impl Unreadable {
-    fn message(self) -> &'static str
-        ensures { result.now ≡ said self }
-    {
-        match self {
-            Unreadable::UnknownCall => "not a call",
-            Unreadable::NoChunk => "a chunk as BYTExCOUNT is missing",
-            Unreadable::NoNumber => "a decimal number below 2^64 is missing",
-            Unreadable::TooMuch => "more words than the call takes",
-            Unreadable::NoMemory => "no memory",
-        }
-    }
-}
-
-impl fmt::Display for Unreadable {
-    ghost output = { λ e. Some (said e) };
-
-    fn fmt<W: fmt::Write>(&self, f: &mut fmt::Formatter<W>) -> fmt::Result {
-        f.write_str(self.message())
-    }
-}
-
-// What was found, if no word stands behind it.
-fn alone<T: Drop>(found: T, rest: &[u8]) -> Result<T, Unreadable>
-    ensures { result ≡ lone found rest.now }
-{
-    let (extra, _) = next_word(rest);
-    if extra.is_empty() {
-        Ok(found)
-    } else {
-        Err(Unreadable::TooMuch)
-    }
-}
-
-// The number that is the only word of what stands behind a call's name.
-fn last_number(text: &[u8]) -> Result<usize, Unreadable>
-    ensures { result ≡ last_number text.now }
-{
-    let (word, rest) = next_word(text);
-    let n = decimal(word).ok_or(Unreadable::NoNumber)?;
-    alone(n, rest)
 }
 
 // The chunk that is the only word of what stands behind a call's name.
@@ -92,42 +33,24 @@ fn chunk_list(heap: Global, text: &[u8]) -> Result<Vec<Spelled>, Unreadable>
     ensures { Reads vec_items result (chunks_of (words text.now)) }
 {
     let mut chunks = Vec::new(heap);
-    let mut left = text;
-    loop {
-        let (word, rest) = next_word(left);
-        if word.is_empty() {
-            return Ok(chunks);
-        }
+    for word in Words(text) {
         let chunk = chunk_word(word).ok_or(Unreadable::NoChunk)?;
-        if chunks.push(chunk).is_err() {
-            return Err(Unreadable::NoMemory);
-        }
-        left = rest;
+        chunks.push(chunk)?;
     }
-}
-
-fn is(word: &[u8], name: &[u8]) -> bool
-    ensures { result ≡ bytes_eq word.now name.now }
-{
-    word == name
+    Ok(chunks)
 }
 
 // The call of that name, with what it is given from `rest`.
 fn call_named(name: &[u8], rest: &[u8]) -> Result<Call<Spelled>, Unreadable>
     ensures { result ≡ named name.now rest.now }
 {
-    if is(name, b"append") {
-        Ok(Call::Append(last_chunk(rest)?))
-    } else if is(name, b"prepend") {
-        Ok(Call::Prepend(last_chunk(rest)?))
-    } else if is(name, b"advance") {
-        Ok(Call::Advance(last_number(rest)?))
-    } else if is(name, b"split_to") {
-        Ok(Call::SplitTo(last_number(rest)?))
-    } else if is(name, b"copy_to_bytes") {
-        Ok(Call::CopyToBytes(last_number(rest)?))
-    } else {
-        Err(Unreadable::UnknownCall)
+    match str::from_utf8(name) {
+        Ok("append") => last_chunk(rest).map(Call::Append),
+        Ok("prepend") => last_chunk(rest).map(Call::Prepend),
+        Ok("advance") => last_number(rest).map(Call::Advance),
+        Ok("split_to") => last_number(rest).map(Call::SplitTo),
+        Ok("copy_to_bytes") => last_number(rest).map(Call::CopyToBytes),
+        _ => Err(Unreadable::UnknownCall),
     }
 }
 
@@ -135,10 +58,10 @@ fn call_named(name: &[u8], rest: &[u8]) -> Result<Call<Spelled>, Unreadable>
 fn line_named(heap: Global, name: &[u8], rest: &[u8]) -> Result<Line, Unreadable>
     ensures { Reads spoken result (spoken_as name.now rest.now) }
 {
-    if is(name, b"from_chunks") {
-        Ok(Line::FromChunks(chunk_list(heap, rest)?))
+    if name == b"from_chunks".as_slice() {
+        chunk_list(heap, rest).map(Line::FromChunks)
     } else {
-        Ok(Line::Call(call_named(name, rest)?))
+        call_named(name, rest).map(Line::Call)
     }
 }
 
@@ -146,12 +69,10 @@ fn line_named(heap: Global, name: &[u8], rest: &[u8]) -> Result<Line, Unreadable
 pub fn read_line(heap: Global, line: &[u8]) -> Result<Option<Line>, Unreadable>
     ensures { Reads (option_map spoken) result (line_of line.now) }
 {
-    let (name, rest) = next_word(text_of(line));
-    if name.is_empty() {
-        return Ok(None);
+    match split_name(line) {
+        Some((name, rest)) => line_named(heap, name, rest).map(Some),
+        None => Ok(None),
     }
-    let line = line_named(heap, name, rest)?;
-    Ok(Some(line))
 }
 
 #[cfg(test)]

@@ -1,2 +1,4 @@
 pub mod Fronts
+pub mod Listed
 pub mod Decimal
+pub mod Named

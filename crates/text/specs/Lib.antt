@@ -1,4 +1,5 @@
 pub mod Words
-pub mod Classes
 pub mod Numbers
+pub mod Unreadable
+pub mod Arguments
 pub mod Lines

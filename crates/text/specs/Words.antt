@@ -1,5 +1,5 @@
 -- The words of a line.
-use Rattle.std.specs.Prelude.{ℕ, Bool, not, ◌||◌, List, take, drop, ◌==◌}
+use Rattle.std.specs.Prelude.{ℕ, zero, suc, Bool, not, cond, ◌||◌, List, [], ◌∷◌, Some, None, length, take, drop, Option, ◌==◌}
 use Rattle.std.specs.List.{prefix_len}
 
 -- the longest front of the bytes that pass a test
@@ -33,3 +33,20 @@ first_word text = front solid (behind blank text)
 -- what stands behind the first word
 abbrev pub past_word : List ℕ → List ℕ
 past_word text = behind solid (behind blank text)
+
+-- no word is left in a text
+abbrev pub ended : List ℕ → Bool
+ended text = length (first_word text) == 0
+
+-- the first k words of a text, or all if it has fewer
+abbrev pub first_words : ℕ → List ℕ → List (List ℕ)
+first_words zero text = []
+first_words (suc k) text = cond (ended text) [] (first_word text ∷ first_words k (past_word text))
+
+-- the words of a text; each takes a byte at least, so there are no more of them than bytes
+abbrev pub words : List ℕ → List (List ℕ)
+words text = first_words (length text) text
+
+-- the first word of a line, and the text behind it: none without a word
+abbrev pub name_of : List ℕ → Option (List ℕ × List ℕ)
+name_of line = cond (ended (text_of line)) None (Some (first_word (text_of line), past_word (text_of line)))

@@ -1,5 +1,7 @@
 #![tactic(auto)]
 
+pub mod arguments;
 pub mod lines;
 pub mod numbers;
+pub mod unreadable;
 pub mod words;

@@ -1,60 +1,12 @@
 // Calls as lines of text.
-ghost use Rattle.std.specs.Prelude.{◌≡◌, Some};
-ghost use Rattle.std.specs.Str.{bytes_eq};
-ghost use Rattle.text.specs.Lines.{said, last_number, run_of, named, call_of};
+ghost use Rattle.std.specs.Prelude.{◌≡◌};
+ghost use Rattle.text.specs.Lines.{run_of, named, call_of};
 
-use crate::numbers::{decimal, hex_byte};
-use crate::words::{next_word, text_of};
+use crate::arguments::last_number;
+use crate::numbers::hex_byte;
+use crate::unreadable::Unreadable;
+use crate::words::{next_word, split_name};
 use calls::call::Call;
-use std::fmt;
-
-// Why a line says no call.
-#[derive(Clone, Copy, PartialEq, Eq, Debug)]
-pub enum Unreadable {
-    // The first word names no call.
-    UnknownCall,
-    // Where a byte should be stands no word of two hexadecimal digits.
-    NoByte,
-    // Where a number should be stands no word of decimal digits below 2^64.
-    NoNumber,
-    // Words stand behind the call.
-    TooMuch,
-}
-
-impl Unreadable {
-    fn message(self) -> &'static str
-        ensures { result.now ≡ said self }
-    {
-        match self {
-            Unreadable::UnknownCall => "not a call",
-            Unreadable::NoByte => "a byte of two hexadecimal digits is missing",
-            Unreadable::NoNumber => "a decimal number below 2^64 is missing",
-            Unreadable::TooMuch => "more words than the call takes",
-        }
-    }
-}
-
-impl fmt::Display for Unreadable {
-    ghost output = { λ e. Some (said e) };
-
-    fn fmt<W: fmt::Write>(&self, f: &mut fmt::Formatter<W>) -> fmt::Result {
-        f.write_str(self.message())
-    }
-}
-
-// The number that is the only word of what stands behind a call's name or byte.
-fn last_number(text: &[u8]) -> Result<usize, Unreadable>
-    ensures { result ≡ last_number text.now }
-{
-    let (word, rest) = next_word(text);
-    let n = decimal(word).ok_or(Unreadable::NoNumber)?;
-    let (extra, _) = next_word(rest);
-    if extra.is_empty() {
-        Ok(n)
-    } else {
-        Err(Unreadable::TooMuch)
-    }
-}
 
 // A run, by the byte and the count behind its name.
 fn run(text: &[u8]) -> Result<Call, Unreadable>
@@ -66,32 +18,16 @@ fn run(text: &[u8]) -> Result<Call, Unreadable>
     Ok(Call::Run { byte, count })
 }
 
-fn is(word: &[u8], name: &[u8]) -> bool
-    ensures { result ≡ bytes_eq word.now name.now }
-{
-    word == name
-}
-
 // The call of that name, with its numbers from `rest`.
 fn call_named(name: &[u8], rest: &[u8]) -> Result<Call, Unreadable>
     ensures { result ≡ named name.now rest.now }
 {
-    if is(name, b"run") {
-        run(rest)
-    } else if is(name, b"cut") {
-        Ok(Call::Cut {
-            n: last_number(rest)?,
-        })
-    } else if is(name, b"advance") {
-        Ok(Call::Advance {
-            n: last_number(rest)?,
-        })
-    } else if is(name, b"write_out") {
-        Ok(Call::WriteOut {
-            n: last_number(rest)?,
-        })
-    } else {
-        Err(Unreadable::UnknownCall)
+    match str::from_utf8(name) {
+        Ok("run") => run(rest),
+        Ok("cut") => last_number(rest).map(|n| Call::Cut { n }),
+        Ok("advance") => last_number(rest).map(|n| Call::Advance { n }),
+        Ok("write_out") => last_number(rest).map(|n| Call::WriteOut { n }),
+        _ => Err(Unreadable::UnknownCall),
     }
 }
 
@@ -99,12 +35,10 @@ fn call_named(name: &[u8], rest: &[u8]) -> Result<Call, Unreadable>
 pub fn read_call(line: &[u8]) -> Result<Option<Call>, Unreadable>
     ensures { result ≡ call_of line.now }
 {
-    let (name, rest) = next_word(text_of(line));
-    if name.is_empty() {
-        return Ok(None);
+    match split_name(line) {
+        Some((name, rest)) => call_named(name, rest).map(Some),
+        None => Ok(None),
     }
-    let call = call_named(name, rest)?;
-    Ok(Some(call))
 }
 
 #[cfg(test)]

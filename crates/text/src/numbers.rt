@@ -1,17 +1,14 @@
 // Numbers as words.
 ghost use Rattle.std.specs.Prelude.{◌≡◌};
+ghost use Rattle.std.specs.Str.{all_ascii_digits};
 ghost use Rattle.text.specs.Numbers.{digit_of, byte_of, decimal_of};
 
 // The value of a hexadecimal digit.
 fn hex_digit(b: u8) -> Option<u8>
     ensures { result ≡ digit_of b }
 {
-    match b {
-        b'0'..=b'9' => Some(b - b'0'),
-        b'a'..=b'f' => Some(b - b'a' + 10),
-        b'A'..=b'F' => Some(b - b'A' + 10),
-        _ => None,
-    }
+    let digit = (b as char).to_digit(16)?;
+    Some(digit as u8)
 }
 
 // The byte that two hexadecimal digits write.
@@ -26,19 +23,19 @@ pub fn hex_byte(word: &[u8]) -> Option<u8>
     Some(16 * high + low)
 }
 
+fn all_digits(word: &[u8]) -> bool
+    ensures { result ≡ all_ascii_digits word.now }
+{
+    word.iter().all(u8::is_ascii_digit)
+}
+
 // The number that decimal digits write, where it fits.
 pub fn decimal(word: &[u8]) -> Option<usize>
     ensures { result ≡ decimal_of word.now }
 {
-    if word.is_empty() {
+    // A sign, which `parse` would take, is no digit.
+    if !all_digits(word) {
         return None;
     }
-    let mut value: usize = 0;
-    for b in word {
-        if !b.is_ascii_digit() {
-            return None;
-        }
-        value = value.checked_mul(10)?.checked_add((*b - b'0') as usize)?;
-    }
-    Some(value)
+    str::from_utf8(word).ok()?.parse().ok()
 }

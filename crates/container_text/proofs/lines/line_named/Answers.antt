@@ -1,27 +1,15 @@
-use Rattle.std.proofs.Common.{◌≡◌, true, false, Ok, codes, sym, ap}
+use Rattle.std.proofs.Common.{◌≡◌, true, false, vec_items, codes, rules}
 use Rattle.std.specs.Str.{bytes_eq}
-use Rattle.container_text.specs.Lines.{then, from_chunks, call, spoken}
-use Rattle.container_text.proofs.Read.{reads_err}
+use Rattle.container_text.specs.Lines.{from_chunks, call, spoken}
+use Rattle.container_text.proofs.Read.{reads_map, reads_all}
 use Rattle.container_text.proofs.lines.line_named.Goals as goal
 
-pub returns-in_err-chunk_list : goal.returns-in_err-chunk_list
-returns-in_err-chunk_list c =
-    let yes : bytes_eq c.args.name.now (codes "from_chunks") ≡ true = sym c.if-is.ensures in
-    reads_err spoken c.from_residual.result c.in_err-chunk_list.field-0.0 _ c.from_residual.ensures.1
-    (λ other. rw yes (ap (λ r. then r (λ xs. Ok (from_chunks xs))) (c.in_err-chunk_list.ensures other)))
+pub returns-then-eq : goal.returns-then-eq
+returns-then-eq c =
+    let yes : bytes_eq c.args.name.now (codes "from_chunks") ≡ true = search rules in
+    rw yes (reads_map vec_items spoken from_chunks (λ x v k. search rules) _ _ c.chunk_list.ensures _ c.map.ensures.cases)
 
-pub returns-in_ok-chunk_list : goal.returns-in_ok-chunk_list
-returns-in_ok-chunk_list c =
-    let yes : bytes_eq c.args.name.now (codes "from_chunks") ≡ true = sym c.if-is.ensures in
-    rw yes (ap (λ r. then r (λ xs. Ok (from_chunks xs))) c.in_ok-chunk_list.ensures)
-
-pub returns-in_err-call_named : goal.returns-in_err-call_named
-returns-in_err-call_named c =
-    let no : bytes_eq c.args.name.now (codes "from_chunks") ≡ false = sym c.if-is.ensures in
-    reads_err spoken c.from_residual-in_err-call_named.result c.in_err-call_named.field-0.0 _ c.from_residual-in_err-call_named.ensures.1
-    (λ _. rw no (ap (λ r. then r (λ x. Ok (call x))) c.in_err-call_named.ensures))
-
-pub returns-in_ok-call_named : goal.returns-in_ok-call_named
-returns-in_ok-call_named c =
-    let no : bytes_eq c.args.name.now (codes "from_chunks") ≡ false = sym c.if-is.ensures in
-    rw no (ap (λ r. then r (λ x. Ok (call x))) c.in_ok-call_named.ensures)
+pub returns-else-eq : goal.returns-else-eq
+returns-else-eq c =
+    let differs : bytes_eq c.args.name.now (codes "from_chunks") ≡ false = search rules in
+    rw differs (reads_map (λ x. x) spoken call (λ x v k. search rules) _ _ (reads_all _ _ c.call_named.ensures) _ c.map-else-eq.ensures.cases)
