@@ -15,7 +15,7 @@ impl fmt::Display for HandedOut<'_> {
 
     fn fmt<W: fmt::Write>(&self, f: &mut fmt::Formatter<W>) -> fmt::Result {
         let chunks = self.0;
-        let count = chunks.bytes.len();
+        let count = chunks.byte_count();
         write!(f, "accepted, handed out {count} [{chunks}]")
     }
 }
