@@ -2,6 +2,7 @@
 
 // Performs the calls that standard input says, one a line, on one chunk, and shows what each did.
 use anyhow::anyhow;
+use calls::call::Call;
 use calls::perform::perform;
 use iobuf::chunk::Chunk;
 use iobuf::run::Run;
@@ -9,6 +10,38 @@ use report::outcome::{Accepted, Holds};
 use store::sizes::STORE_SIZE;
 use store::space::Store;
 use text::lines::read_call;
+
+// Performs a call, and prints the outcome.
+fn trace_call(
+    rt: &HostRuntime,
+    call: Call,
+    store: &Store,
+    page: &mut Run,
+) -> anyhow::Result<()> {
+    let mut out = [0; STORE_SIZE];
+    match perform(call, store, page, &mut out) {
+        Ok(count) => {
+            let accepted = Accepted(&out[0..count]);
+            println!(rt; "   {accepted}")?;
+        }
+        Err(fault) => println!(rt; "   {fault}")?,
+    }
+    Ok(())
+}
+
+// Prints what the chunk holds.
+fn print_state(rt: &HostRuntime, store: &Store, page: &Run) -> anyhow::Result<()> {
+    let mut out = [0; STORE_SIZE];
+    let count = page.remaining();
+    if page.write_out(store, count, &mut out).is_ok() {
+        let holds = Holds {
+            bytes: &out[0..count],
+            capacity: page.capacity(),
+        };
+        println!(rt; "   {holds}")?;
+    }
+    Ok(())
+}
 
 // Performs the call of one line, if it says one, and prints the line, the outcome and what the chunk then holds.
 fn trace_line(
@@ -27,33 +60,15 @@ fn trace_line(
         }
     };
     println!(rt; "{number}: {line}")?;
-    let mut out = [0; STORE_SIZE];
-    match perform(call, store, page, &mut out) {
-        Ok(count) => {
-            let accepted = Accepted(&out[0..count]);
-            println!(rt; "   {accepted}")?;
-        }
-        Err(fault) => println!(rt; "   {fault}")?,
-    }
-    let count = page.remaining();
-    if page.write_out(store, count, &mut out).is_ok() {
-        let holds = Holds {
-            bytes: &out[0..count],
-            capacity: page.capacity(),
-        };
-        println!(rt; "   {holds}")?;
-    }
-    Ok(())
+    trace_call(rt, call, store, page)?;
+    print_state(rt, store, page)
 }
 
 fn main(rt: HostRuntime) -> anyhow::Result<()> {
     let store = Store::new();
     let mut page = Run::blank();
-    let mut number = 0usize;
-    for line in rt.lines(rt.alloc()) {
-        let line = line?;
-        number = number.saturating_add(1);
-        trace_line(&rt, number, line.as_str(), &store, &mut page)?;
+    for (number, line) in (1usize..).zip(rt.lines(rt.alloc())) {
+        trace_line(&rt, number, line?.as_str(), &store, &mut page)?;
     }
     Ok(())
 }
