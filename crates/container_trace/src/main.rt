@@ -14,77 +14,79 @@ use container_text::lines::{Line, read_line};
 use iobuf::chunk::Chunk;
 use iobuf::run::Run;
 use std::alloc::{AllocError, Global};
+use std::io;
 use store::fault::Fault;
-use store::sizes::{CHUNK_LIMIT, STORE_SIZE};
+use store::sizes::CHUNK_LIMIT;
 use store::space::Store;
 
-// The chunks of a container as they are shown: their bytes, one chunk behind the other, and their sizes.
+// Why what a line says is not done: it is refused, or the program cannot go on.
 #[derive(Drop)]
-struct Rows {
-    bytes: Vec<u8>,
-    sizes: Vec<usize>,
+enum Stop {
+    Refused(Fault),
+    Failed(anyhow::Error),
 }
 
-// Puts the bytes of a chunk behind those that there are.
-fn read_chunk(store: &Store, chunk: &Run, bytes: &mut Vec<u8>) -> Result<(), AllocError> {
-    let mut page = [0; STORE_SIZE];
-    let size = chunk.remaining();
-    if chunk.write_out(store, size, &mut page).is_ok() {
-        bytes.extend_from_slice(&page[0..size])?;
-    }
-    Ok(())
-}
-
-impl Rows {
-    fn read(heap: Global, store: &Store, bufs: &IoBufs<'_, Run>) -> Result<Rows, AllocError> {
-        let mut bytes = Vec::new(heap);
-        let mut sizes = Vec::new(heap);
-        for i in 0..bufs.chunk_count() {
-            if let Some(chunk) = bufs.nth(i) {
-                read_chunk(store, chunk, &mut bytes)?;
-                sizes.push(chunk.remaining())?;
-            }
-        }
-        Ok(Rows { bytes, sizes })
-    }
-
-    fn bordered(&self) -> Bordered<'_> {
-        Bordered {
-            bytes: self.bytes.as_slice(),
-            sizes: self.sizes.as_slice(),
-        }
+impl From<Fault> for Stop {
+    fn from(fault: Fault) -> Stop {
+        Stop::Refused(fault)
     }
 }
 
+impl From<AllocError> for Stop {
+    fn from(error: AllocError) -> Stop {
+        Stop::Failed(error.into())
+    }
+}
+
+impl From<io::Error> for Stop {
+    fn from(error: io::Error) -> Stop {
+        Stop::Failed(error.into())
+    }
+}
+
+// The bytes of a chunk.
+fn bytes_of(heap: Global, store: &Store, chunk: &Run) -> Result<Vec<u8>, AllocError> {
+    let mut bytes = vec![in heap; 0; chunk.remaining()]?;
+    chunk
+        .write_out(store, bytes.len(), bytes.as_mut_slice())
+        .unwrap();
+    Ok(bytes)
+}
+
+// The bytes of each chunk of a container.
+fn rows_of(
+    heap: Global,
+    store: &Store,
+    bufs: &IoBufs<'_, Run>,
+) -> Result<Vec<Vec<u8>>, AllocError> {
+    (0..bufs.chunk_count())
+        .filter_map(|i| bufs.nth(i))
+        .map(|chunk| bytes_of(heap, store, chunk))
+        .try_collect(heap)
+}
+
+// The run that is spelled, or the refusal of one that is too long.
 fn run_of(chunk: Spelled) -> Result<Run, Fault> {
     Run::new(chunk.byte, chunk.count)
 }
 
-// The call on runs, or the refusal of a chunk that is too long.
-fn with_run(call: Call<Spelled>) -> Result<Call<Run>, Fault> {
-    match call {
-        Call::Append(chunk) => Ok(Call::Append(run_of(chunk)?)),
-        Call::Prepend(chunk) => Ok(Call::Prepend(run_of(chunk)?)),
-        Call::Advance(n) => Ok(Call::Advance(n)),
-        Call::SplitTo(n) => Ok(Call::SplitTo(n)),
-        Call::CopyToBytes(n) => Ok(Call::CopyToBytes(n)),
-    }
+// The runs that are spelled.
+fn runs_of(heap: Global, chunks: &[Spelled]) -> Result<Vec<Run>, Stop> {
+    chunks
+        .iter()
+        .map(|chunk| run_of(*chunk).map_err(Stop::from))
+        .try_collect(heap)
 }
 
-// Fills the container with runs, unless one of them is too long. The outer error is want of memory.
-fn fill(
-    heap: Global,
-    chunks: &[Spelled],
-    bufs: &mut IoBufs<'_, Run>,
-) -> Result<Result<(), Fault>, AllocError> {
-    let mut runs = Vec::new(heap);
-    for chunk in chunks {
-        match run_of(*chunk) {
-            Ok(run) => runs.push(run)?,
-            Err(fault) => return Ok(Err(fault)),
-        }
-    }
-    Ok(bufs.from_chunks(runs.as_slice()))
+// The call on the run that is spelled.
+fn with_run(call: Call<Spelled>) -> Result<Call<Run>, Fault> {
+    Ok(match call {
+        Call::Append(chunk) => Call::Append(run_of(chunk)?),
+        Call::Prepend(chunk) => Call::Prepend(run_of(chunk)?),
+        Call::Advance(n) => Call::Advance(n),
+        Call::SplitTo(n) => Call::SplitTo(n),
+        Call::CopyToBytes(n) => Call::CopyToBytes(n),
+    })
 }
 
 // Performs a call on runs, and prints what it did.
@@ -93,25 +95,23 @@ fn trace_call(
     call: Call<Run>,
     store: &Store,
     bufs: &mut IoBufs<'_, Run>,
-) -> anyhow::Result<()> {
-    let splits = matches!(call, Call::SplitTo(_));
+) -> Result<(), Stop> {
     let mut slots = [Run::blank(); CHUNK_LIMIT];
     let mut target = IoBufs::new(&mut slots);
     // No more than this can be copied out.
     let mut out = vec![in rt.alloc(); 0; bufs.remaining()]?;
-    match perform(call, bufs, store, &mut target, out.as_mut_slice()) {
-        Answer::Accepted if splits => {
-            let rows = Rows::read(rt.alloc(), store, &target)?;
-            let handed = HandedOut(rows.bordered());
-            println!(rt; "   {handed}")?;
-        }
-        Answer::Accepted => println!(rt; "   accepted")?,
-        Answer::Copied(count) => {
+    let answer = perform(call, bufs, store, &mut target, out.as_mut_slice());
+    match (call, answer) {
+        (_, Answer::Refused(fault)) => return Err(Stop::Refused(fault)),
+        (_, Answer::Copied(count)) => {
             out.truncate(count);
-            let copied = Copied(out.as_slice());
-            println!(rt; "   {copied}")?;
+            println!(rt; "   {}", Copied(out.as_slice()))?;
         }
-        Answer::Refused(fault) => println!(rt; "   {fault}")?,
+        (Call::SplitTo(_), Answer::Accepted) => {
+            let rows = rows_of(rt.alloc(), store, &target)?;
+            println!(rt; "   {}", HandedOut(Bordered(rows.as_slice())))?;
+        }
+        (_, Answer::Accepted) => println!(rt; "   accepted")?,
     }
     Ok(())
 }
@@ -122,28 +122,26 @@ fn trace_said(
     said: Line,
     store: &Store,
     bufs: &mut IoBufs<'_, Run>,
-) -> anyhow::Result<()> {
+) -> Result<(), Stop> {
     match said {
-        Line::FromChunks(chunks) => match fill(rt.alloc(), chunks.as_slice(), bufs)? {
-            Ok(()) => println!(rt; "   accepted")?,
-            Err(fault) => println!(rt; "   {fault}")?,
-        },
-        Line::Call(call) => match with_run(call) {
-            Ok(call) => trace_call(rt, call, store, bufs)?,
-            Err(fault) => println!(rt; "   {fault}")?,
-        },
+        Line::FromChunks(chunks) => {
+            let runs = runs_of(rt.alloc(), chunks.as_slice())?;
+            bufs.from_chunks(runs.as_slice())?;
+            println!(rt; "   accepted")?;
+            Ok(())
+        }
+        Line::Call(call) => trace_call(rt, with_run(call)?, store, bufs),
     }
-    Ok(())
 }
 
 // Prints what the container holds.
 fn print_state(rt: &HostRuntime, store: &Store, bufs: &IoBufs<'_, Run>) -> anyhow::Result<()> {
-    let rows = Rows::read(rt.alloc(), store, bufs)?;
+    let rows = rows_of(rt.alloc(), store, bufs)?;
     let count = bufs.chunk_count();
     let contents = Contents {
         count,
         remaining: bufs.remaining(),
-        chunks: rows.bordered(),
+        chunks: Bordered(rows.as_slice()),
     };
     println!(rt; "   {contents}")?;
     let totals = Totals {
@@ -172,7 +170,11 @@ fn trace_line(
         }
     };
     println!(rt; "{number}: {line}")?;
-    trace_said(rt, said, store, bufs)?;
+    match trace_said(rt, said, store, bufs) {
+        Ok(()) => {}
+        Err(Stop::Refused(fault)) => println!(rt; "   {fault}")?,
+        Err(Stop::Failed(error)) => return Err(error),
+    }
     print_state(rt, store, bufs)
 }
 
@@ -180,11 +182,8 @@ fn main(rt: HostRuntime) -> anyhow::Result<()> {
     let store = Store::new();
     let mut slots = [Run::blank(); CHUNK_LIMIT];
     let mut bufs = IoBufs::new(&mut slots);
-    let mut number = 0usize;
-    for line in rt.lines(rt.alloc()) {
-        let line = line?;
-        number = number.saturating_add(1);
-        trace_line(&rt, number, line.as_str(), &store, &mut bufs)?;
+    for (number, line) in (1usize..).zip(rt.lines(rt.alloc())) {
+        trace_line(&rt, number, line?.as_str(), &store, &mut bufs)?;
     }
     Ok(())
 }
