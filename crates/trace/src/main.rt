@@ -21,8 +21,7 @@ fn trace_call(
     let mut out = [0; STORE_SIZE];
     match perform(call, store, page, &mut out) {
         Ok(count) => {
-            let accepted = Accepted(&out[0..count]);
-            println!(rt; "   {accepted}")?;
+            println!(rt; "   {}", Accepted(&out[0..count]))?;
         }
         Err(fault) => println!(rt; "   {fault}")?,
     }
@@ -33,13 +32,12 @@ fn trace_call(
 fn print_state(rt: &HostRuntime, store: &Store, page: &Run) -> anyhow::Result<()> {
     let mut out = [0; STORE_SIZE];
     let count = page.remaining();
-    if page.write_out(store, count, &mut out).is_ok() {
-        let holds = Holds {
-            bytes: &out[0..count],
-            capacity: page.capacity(),
-        };
-        println!(rt; "   {holds}")?;
-    }
+    page.write_out(store, count, &mut out).unwrap();
+    let holds = Holds {
+        bytes: &out[0..count],
+        capacity: page.capacity(),
+    };
+    println!(rt; "   {holds}")?;
     Ok(())
 }
 
