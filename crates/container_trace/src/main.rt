@@ -1,7 +1,6 @@
 #![tactic(auto)]
 
 // Performs the calls that standard input says, one a line, on one container of runs, and shows what each did.
-use anyhow::anyhow;
 use bufs::IoBufs;
 use container_calls::answer::Answer;
 use container_calls::call::Call;
@@ -13,6 +12,7 @@ use container_text::chunks::Spelled;
 use container_text::lines::{Line, read_line};
 use iobuf::chunk::Chunk;
 use iobuf::run::Run;
+use report::line::announce;
 use std::alloc::{AllocError, Global};
 use std::io;
 use store::fault::Fault;
@@ -103,10 +103,7 @@ fn trace_call(
     let answer = perform(call, bufs, store, &mut target, out.as_mut_slice());
     match (call, answer) {
         (_, Answer::Refused(fault)) => return Err(Stop::Refused(fault)),
-        (_, Answer::Copied(count)) => {
-            out.truncate(count);
-            println!(rt; "   {}", Copied(out.as_slice()))?;
-        }
+        (_, Answer::Copied(count)) => println!(rt; "   {}", Copied(&out[..count]))?,
         (Call::SplitTo(_), Answer::Accepted) => {
             let rows = rows_of(rt.alloc(), store, &target)?;
             println!(rt; "   {}", HandedOut(Bordered(rows.as_slice())))?;
@@ -161,15 +158,10 @@ fn trace_line(
     store: &Store,
     bufs: &mut IoBufs<'_, Run>,
 ) -> anyhow::Result<()> {
-    let said = match read_line(rt.alloc(), line.as_bytes()) {
-        Ok(Some(said)) => said,
-        Ok(None) => return Ok(()),
-        Err(why) => {
-            eprintln!(rt; "line {number}: {why}: {line}")?;
-            return Err(anyhow!("a line cannot be read"));
-        }
+    let found = read_line(rt.alloc(), line.as_bytes());
+    let Some(said) = announce(rt, number, line, found)? else {
+        return Ok(());
     };
-    println!(rt; "{number}: {line}")?;
     match trace_said(rt, said, store, bufs) {
         Ok(()) => {}
         Err(Stop::Refused(fault)) => println!(rt; "   {fault}")?,

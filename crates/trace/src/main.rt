@@ -1,11 +1,11 @@
 #![tactic(auto)]
 
 // Performs the calls that standard input says, one a line, on one chunk, and shows what each did.
-use anyhow::anyhow;
 use calls::call::Call;
 use calls::perform::perform;
 use iobuf::chunk::Chunk;
 use iobuf::run::Run;
+use report::line::announce;
 use report::outcome::{Accepted, Holds};
 use store::sizes::STORE_SIZE;
 use store::space::Store;
@@ -49,15 +49,10 @@ fn trace_line(
     store: &Store,
     page: &mut Run,
 ) -> anyhow::Result<()> {
-    let call = match read_call(line.as_bytes()) {
-        Ok(Some(call)) => call,
-        Ok(None) => return Ok(()),
-        Err(why) => {
-            eprintln!(rt; "line {number}: {why}: {line}")?;
-            return Err(anyhow!("a line cannot be read"));
-        }
+    let found = read_call(line.as_bytes());
+    let Some(call) = announce(rt, number, line, found)? else {
+        return Ok(());
     };
-    println!(rt; "{number}: {line}")?;
     trace_call(rt, call, store, page)?;
     print_state(rt, store, page)
 }
