@@ -25,11 +25,9 @@ impl fmt::Display for Bordered<'_> {
         let [first, others @ ..] = self.0 else {
             return Ok(());
         };
-        let first = Hex(first.as_slice());
-        write!(f, "{first}")?;
+        write!(f, "{}", Hex(first.as_slice()))?;
         for chunk in others {
-            let bytes = Hex(chunk.as_slice());
-            write!(f, " | {bytes}")?;
+            write!(f, " | {}", Hex(chunk.as_slice()))?;
         }
         Ok(())
     }
