@@ -89,93 +89,97 @@ fn with_run(call: Call<Spelled>) -> Result<Call<Run>, Fault> {
     })
 }
 
-// Performs a call on runs, and prints what it did.
-fn trace_call(
-    rt: &HostRuntime,
-    call: Call<Run>,
-    store: &Store,
-    bufs: &mut IoBufs<'_, Run>,
-) -> Result<(), Stop> {
-    let mut slots = [Run::blank(); CHUNK_LIMIT];
-    let mut target = IoBufs::new(&mut slots);
-    // No more than this can be copied out.
-    let mut out = vec![in rt.alloc(); 0; bufs.remaining()]?;
-    let answer = perform(call, bufs, store, &mut target, out.as_mut_slice());
-    match (call, answer) {
-        (_, Answer::Refused(fault)) => return Err(Stop::Refused(fault)),
-        (_, Answer::Copied(count)) => println!(rt; "   {}", Copied(&out[..count]))?,
-        (Call::SplitTo(_), Answer::Accepted) => {
-            let rows = rows_of(rt.alloc(), store, &target)?;
-            println!(rt; "   {}", HandedOut(Bordered(rows.as_slice())))?;
+// A container of runs that calls are performed on, its store, and where it is printed what they did.
+#[derive(Drop)]
+struct Tracer<'a> {
+    rt: &'a HostRuntime,
+    store: Store,
+    bufs: IoBufs<'a, Run>,
+}
+
+impl Tracer<'_> {
+    // Performs a call on runs, and prints what it did.
+    fn trace_call(&mut self, call: Call<Run>) -> Result<(), Stop> {
+        let rt = self.rt;
+        let mut slots = [Run::blank(); CHUNK_LIMIT];
+        let mut target = IoBufs::new(&mut slots);
+        // No more than this can be copied out.
+        let mut out = vec![in rt.alloc(); 0; self.bufs.remaining()]?;
+        let answer = perform(
+            call,
+            &mut self.bufs,
+            &self.store,
+            &mut target,
+            out.as_mut_slice(),
+        );
+        match (call, answer) {
+            (_, Answer::Refused(fault)) => return Err(Stop::Refused(fault)),
+            (_, Answer::Copied(count)) => println!(rt; "   {}", Copied(&out[..count]))?,
+            (Call::SplitTo(_), Answer::Accepted) => {
+                let rows = rows_of(rt.alloc(), &self.store, &target)?;
+                println!(rt; "   {}", HandedOut(Bordered(rows.as_slice())))?;
+            }
+            (_, Answer::Accepted) => println!(rt; "   accepted")?,
         }
-        (_, Answer::Accepted) => println!(rt; "   accepted")?,
+        Ok(())
     }
-    Ok(())
-}
 
-// Does what was said, and prints what that did.
-fn trace_said(
-    rt: &HostRuntime,
-    said: Line,
-    store: &Store,
-    bufs: &mut IoBufs<'_, Run>,
-) -> Result<(), Stop> {
-    match said {
-        Line::FromChunks(chunks) => {
-            let runs = runs_of(rt.alloc(), chunks.as_slice())?;
-            bufs.from_chunks(runs.as_slice())?;
-            println!(rt; "   accepted")?;
-            Ok(())
+    // Does what was said, and prints what that did.
+    fn trace_said(&mut self, said: Line) -> Result<(), Stop> {
+        match said {
+            Line::FromChunks(chunks) => {
+                let runs = runs_of(self.rt.alloc(), chunks.as_slice())?;
+                self.bufs.from_chunks(runs.as_slice())?;
+                println!(self.rt; "   accepted")?;
+                Ok(())
+            }
+            Line::Call(call) => self.trace_call(with_run(call)?),
         }
-        Line::Call(call) => trace_call(rt, with_run(call)?, store, bufs),
     }
-}
 
-// Prints what the container holds.
-fn print_state(rt: &HostRuntime, store: &Store, bufs: &IoBufs<'_, Run>) -> anyhow::Result<()> {
-    let rows = rows_of(rt.alloc(), store, bufs)?;
-    let count = bufs.chunk_count();
-    let contents = Contents {
-        count,
-        remaining: bufs.remaining(),
-        chunks: Bordered(rows.as_slice()),
-    };
-    println!(rt; "   {contents}")?;
-    let totals = Totals {
-        capacity: bufs.capacity(),
-        writable: bufs.remaining_mut(),
-        free: bufs.limit().saturating_sub(count),
-    };
-    println!(rt; "   {totals}")?;
-    Ok(())
-}
-
-// Does what one line says, if it says anything, and prints the line, the outcome and what the container then holds.
-fn trace_line(
-    rt: &HostRuntime,
-    number: usize,
-    line: &str,
-    store: &Store,
-    bufs: &mut IoBufs<'_, Run>,
-) -> anyhow::Result<()> {
-    let found = read_line(rt.alloc(), line.as_bytes());
-    let Some(said) = announce(rt, number, line, found)? else {
-        return Ok(());
-    };
-    match trace_said(rt, said, store, bufs) {
-        Ok(()) => {}
-        Err(Stop::Refused(fault)) => println!(rt; "   {fault}")?,
-        Err(Stop::Failed(error)) => return Err(error),
+    // Prints what the container holds.
+    fn print_state(&self) -> anyhow::Result<()> {
+        let rows = rows_of(self.rt.alloc(), &self.store, &self.bufs)?;
+        let count = self.bufs.chunk_count();
+        let contents = Contents {
+            count,
+            remaining: self.bufs.remaining(),
+            chunks: Bordered(rows.as_slice()),
+        };
+        println!(self.rt; "   {contents}")?;
+        let totals = Totals {
+            capacity: self.bufs.capacity(),
+            writable: self.bufs.remaining_mut(),
+            free: self.bufs.limit().saturating_sub(count),
+        };
+        println!(self.rt; "   {totals}")?;
+        Ok(())
     }
-    print_state(rt, store, bufs)
+
+    // Does what one line says, if it says anything, and prints the line, the outcome and what the container then holds.
+    fn trace_line(&mut self, number: usize, line: &str) -> anyhow::Result<()> {
+        let found = read_line(self.rt.alloc(), line.as_bytes());
+        let Some(said) = announce(self.rt, number, line, found)? else {
+            return Ok(());
+        };
+        match self.trace_said(said) {
+            Ok(()) => {}
+            Err(Stop::Refused(fault)) => println!(self.rt; "   {fault}")?,
+            Err(Stop::Failed(error)) => return Err(error),
+        }
+        self.print_state()
+    }
 }
 
 fn main(rt: HostRuntime) -> anyhow::Result<()> {
-    let store = Store::new();
     let mut slots = [Run::blank(); CHUNK_LIMIT];
-    let mut bufs = IoBufs::new(&mut slots);
+    let mut tracer = Tracer {
+        rt: &rt,
+        store: Store::new(),
+        bufs: IoBufs::new(&mut slots),
+    };
     for (number, line) in (1usize..).zip(rt.lines(rt.alloc())) {
-        trace_line(&rt, number, line?.as_str(), &store, &mut bufs)?;
+        tracer.trace_line(number, line?.as_str())?;
     }
     Ok(())
 }

@@ -11,57 +11,57 @@ use store::sizes::STORE_SIZE;
 use store::space::Store;
 use text::lines::read_call;
 
-// Performs a call, and prints the outcome.
-fn trace_call(
-    rt: &HostRuntime,
-    call: Call,
-    store: &Store,
-    page: &mut Run,
-) -> anyhow::Result<()> {
-    let mut out = [0; STORE_SIZE];
-    match perform(call, store, page, &mut out) {
-        Ok(count) => {
-            println!(rt; "   {}", Accepted(&out[0..count]))?;
+// A chunk that calls are performed on, its store, and where it is printed what they did.
+#[derive(Drop)]
+struct Tracer<'a> {
+    rt: &'a HostRuntime,
+    store: Store,
+    page: Run,
+}
+
+impl Tracer<'_> {
+    // Performs a call, and prints the outcome.
+    fn trace_call(&mut self, call: Call) -> anyhow::Result<()> {
+        let mut out = [0; STORE_SIZE];
+        match perform(call, &self.store, &mut self.page, &mut out) {
+            Ok(count) => println!(self.rt; "   {}", Accepted(&out[..count]))?,
+            Err(fault) => println!(self.rt; "   {fault}")?,
         }
-        Err(fault) => println!(rt; "   {fault}")?,
+        Ok(())
     }
-    Ok(())
-}
 
-// Prints what the chunk holds.
-fn print_state(rt: &HostRuntime, store: &Store, page: &Run) -> anyhow::Result<()> {
-    let mut out = [0; STORE_SIZE];
-    let count = page.remaining();
-    page.write_out(store, count, &mut out).unwrap();
-    let holds = Holds {
-        bytes: &out[0..count],
-        capacity: page.capacity(),
-    };
-    println!(rt; "   {holds}")?;
-    Ok(())
-}
+    // Prints what the chunk holds.
+    fn print_state(&self) -> anyhow::Result<()> {
+        let mut out = [0; STORE_SIZE];
+        let count = self.page.remaining();
+        self.page.write_out(&self.store, count, &mut out).unwrap();
+        let holds = Holds {
+            bytes: &out[..count],
+            capacity: self.page.capacity(),
+        };
+        println!(self.rt; "   {holds}")?;
+        Ok(())
+    }
 
-// Performs the call of one line, if it says one, and prints the line, the outcome and what the chunk then holds.
-fn trace_line(
-    rt: &HostRuntime,
-    number: usize,
-    line: &str,
-    store: &Store,
-    page: &mut Run,
-) -> anyhow::Result<()> {
-    let found = read_call(line.as_bytes());
-    let Some(call) = announce(rt, number, line, found)? else {
-        return Ok(());
-    };
-    trace_call(rt, call, store, page)?;
-    print_state(rt, store, page)
+    // Performs the call of one line, if it says one, and prints the line, the outcome and what the chunk then holds.
+    fn trace_line(&mut self, number: usize, line: &str) -> anyhow::Result<()> {
+        let found = read_call(line.as_bytes());
+        let Some(call) = announce(self.rt, number, line, found)? else {
+            return Ok(());
+        };
+        self.trace_call(call)?;
+        self.print_state()
+    }
 }
 
 fn main(rt: HostRuntime) -> anyhow::Result<()> {
-    let store = Store::new();
-    let mut page = Run::blank();
+    let mut tracer = Tracer {
+        rt: &rt,
+        store: Store::new(),
+        page: Run::blank(),
+    };
     for (number, line) in (1usize..).zip(rt.lines(rt.alloc())) {
-        trace_line(&rt, number, line?.as_str(), &store, &mut page)?;
+        tracer.trace_line(number, line?.as_str())?;
     }
     Ok(())
 }
