@@ -14,9 +14,12 @@ impl fmt::Display for HandedOut<'_> {
     ghost output = { λ h. Some (handed_words h.0) };
 
     fn fmt<W: fmt::Write>(&self, f: &mut fmt::Formatter<W>) -> fmt::Result {
-        let chunks = self.0;
-        let count = chunks.bytes.len();
-        write!(f, "accepted, handed out {count} [{chunks}]")
+        write!(
+            f,
+            "accepted, handed out {} [{}]",
+            self.0.byte_count(),
+            self.0
+        )
     }
 }
 
@@ -28,8 +31,6 @@ impl fmt::Display for Copied<'_> {
     ghost output = { λ c. Some (copied_words c.0.now) };
 
     fn fmt<W: fmt::Write>(&self, f: &mut fmt::Formatter<W>) -> fmt::Result {
-        let count = self.0.len();
-        let bytes = Hex(self.0);
-        write!(f, "accepted, copied {count} [{bytes}]")
+        write!(f, "accepted, copied {} [{}]", self.0.len(), Hex(self.0))
     }
 }

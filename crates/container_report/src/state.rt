@@ -17,10 +17,11 @@ impl fmt::Display for Contents<'_> {
     ghost output = { λ c. Some (contents_words c) };
 
     fn fmt<W: fmt::Write>(&self, f: &mut fmt::Formatter<W>) -> fmt::Result {
-        let count = self.count;
-        let remaining = self.remaining;
-        let chunks = self.chunks;
-        write!(f, "chunks {count}, remaining {remaining} [{chunks}]")
+        write!(
+            f,
+            "chunks {}, remaining {} [{}]",
+            self.count, self.remaining, self.chunks
+        )
     }
 }
 
@@ -36,12 +37,10 @@ impl fmt::Display for Totals {
     ghost output = { λ t. Some (totals_words t) };
 
     fn fmt<W: fmt::Write>(&self, f: &mut fmt::Formatter<W>) -> fmt::Result {
-        let capacity = self.capacity;
-        let writable = self.writable;
-        let free = self.free;
         write!(
             f,
-            "capacity {capacity}, writable {writable}, slots free {free}"
+            "capacity {}, writable {}, slots free {}",
+            self.capacity, self.writable, self.free
         )
     }
 }

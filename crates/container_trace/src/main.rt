@@ -1,9 +1,7 @@
 #![tactic(auto)]
 
 // Performs the calls that standard input says, one a line, on one container of runs, and shows what each did.
-use anyhow::anyhow;
 use bufs::IoBufs;
-use container_calls::answer::Answer;
 use container_calls::call::Call;
 use container_calls::perform::perform;
 use container_report::border::Bordered;
@@ -13,178 +11,167 @@ use container_text::chunks::Spelled;
 use container_text::lines::{Line, read_line};
 use iobuf::chunk::Chunk;
 use iobuf::run::Run;
+use report::line::announce;
 use std::alloc::{AllocError, Global};
+use std::io;
 use store::fault::Fault;
-use store::sizes::{CHUNK_LIMIT, STORE_SIZE};
+use store::sizes::CHUNK_LIMIT;
 use store::space::Store;
 
-// The chunks of a container as they are shown: their bytes, one chunk behind the other, and their sizes.
+// Why what a line says is not done: it is refused, or the program cannot go on.
 #[derive(Drop)]
-struct Rows {
-    bytes: Vec<u8>,
-    sizes: Vec<usize>,
+enum Stop {
+    Refused(Fault),
+    Failed(anyhow::Error),
 }
 
-// Puts the bytes of a chunk behind those that there are.
-fn read_chunk(store: &Store, chunk: &Run, bytes: &mut Vec<u8>) -> Result<(), AllocError> {
-    let mut page = [0; STORE_SIZE];
-    let size = chunk.remaining();
-    if chunk.write_out(store, size, &mut page).is_ok() {
-        bytes.extend_from_slice(&page[0..size])?;
-    }
-    Ok(())
-}
-
-impl Rows {
-    fn read(heap: Global, store: &Store, bufs: &IoBufs<'_, Run>) -> Result<Rows, AllocError> {
-        let mut bytes = Vec::new(heap);
-        let mut sizes = Vec::new(heap);
-        for i in 0..bufs.chunk_count() {
-            if let Some(chunk) = bufs.nth(i) {
-                read_chunk(store, chunk, &mut bytes)?;
-                sizes.push(chunk.remaining())?;
-            }
-        }
-        Ok(Rows { bytes, sizes })
-    }
-
-    fn bordered(&self) -> Bordered<'_> {
-        Bordered {
-            bytes: self.bytes.as_slice(),
-            sizes: self.sizes.as_slice(),
-        }
+impl From<Fault> for Stop {
+    fn from(fault: Fault) -> Stop {
+        Stop::Refused(fault)
     }
 }
 
-fn run_of(chunk: Spelled) -> Result<Run, Fault> {
-    Run::new(chunk.byte, chunk.count)
-}
-
-// The call on runs, or the refusal of a chunk that is too long.
-fn with_run(call: Call<Spelled>) -> Result<Call<Run>, Fault> {
-    match call {
-        Call::Append(chunk) => Ok(Call::Append(run_of(chunk)?)),
-        Call::Prepend(chunk) => Ok(Call::Prepend(run_of(chunk)?)),
-        Call::Advance(n) => Ok(Call::Advance(n)),
-        Call::SplitTo(n) => Ok(Call::SplitTo(n)),
-        Call::CopyToBytes(n) => Ok(Call::CopyToBytes(n)),
+impl From<AllocError> for Stop {
+    fn from(error: AllocError) -> Stop {
+        Stop::Failed(error.into())
     }
 }
 
-// Fills the container with runs, unless one of them is too long. The outer error is want of memory.
-fn fill(
+impl From<io::Error> for Stop {
+    fn from(error: io::Error) -> Stop {
+        Stop::Failed(error.into())
+    }
+}
+
+// The bytes of a chunk.
+fn bytes_of(heap: Global, store: &Store, chunk: &Run) -> Result<Vec<u8>, AllocError> {
+    let mut bytes = vec![in heap; 0; chunk.remaining()]?;
+    chunk
+        .write_out(store, bytes.len(), bytes.as_mut_slice())
+        .unwrap();
+    Ok(bytes)
+}
+
+// The bytes of each chunk of a container.
+fn rows_of(
     heap: Global,
-    chunks: &[Spelled],
-    bufs: &mut IoBufs<'_, Run>,
-) -> Result<Result<(), Fault>, AllocError> {
-    let mut runs = Vec::new(heap);
-    for chunk in chunks {
-        match run_of(*chunk) {
-            Ok(run) => runs.push(run)?,
-            Err(fault) => return Ok(Err(fault)),
+    store: &Store,
+    bufs: &IoBufs<'_, Run>,
+) -> Result<Vec<Vec<u8>>, AllocError> {
+    bufs.iter()
+        .map(|chunk| bytes_of(heap, store, chunk))
+        .try_collect(heap)
+}
+
+// The runs that are spelled.
+fn runs_of(heap: Global, chunks: &[Spelled]) -> Result<Vec<Run>, Stop> {
+    chunks
+        .iter()
+        .map(|chunk| Run::try_from(*chunk).map_err(Stop::from))
+        .try_collect(heap)
+}
+
+// The call on the run that is spelled.
+fn with_run(call: Call<Spelled>) -> Result<Call<Run>, Fault> {
+    Ok(match call {
+        Call::Append(chunk) => Call::Append(chunk.try_into()?),
+        Call::Prepend(chunk) => Call::Prepend(chunk.try_into()?),
+        Call::Advance(n) => Call::Advance(n),
+        Call::SplitTo(n) => Call::SplitTo(n),
+        Call::CopyToBytes(n) => Call::CopyToBytes(n),
+    })
+}
+
+// A container of runs that calls are performed on, its store, and where it is printed what they did.
+#[derive(Drop)]
+struct Tracer<'a> {
+    rt: &'a HostRuntime,
+    store: Store,
+    bufs: IoBufs<'a, Run>,
+}
+
+impl Tracer<'_> {
+    // Performs a call on runs, and prints what it did.
+    fn trace_call(&mut self, call: Call<Run>) -> Result<(), Stop> {
+        let rt = self.rt;
+        let mut slots = [Run::blank(); CHUNK_LIMIT];
+        let mut target = IoBufs::new(&mut slots);
+        // No more than this can be copied out.
+        let mut out = vec![in rt.alloc(); 0; self.bufs.remaining()]?;
+        let copied = perform(
+            call,
+            &mut self.bufs,
+            &self.store,
+            &mut target,
+            out.as_mut_slice(),
+        )?;
+        match (call, copied) {
+            (_, Some(count)) => println!(rt; "   {}", Copied(&out[..count]))?,
+            (Call::SplitTo(_), None) => {
+                let rows = rows_of(rt.alloc(), &self.store, &target)?;
+                println!(rt; "   {}", HandedOut(Bordered(rows.as_slice())))?;
+            }
+            (_, None) => println!(rt; "   accepted")?,
+        }
+        Ok(())
+    }
+
+    // Does what was said, and prints what that did.
+    fn trace_said(&mut self, said: Line) -> Result<(), Stop> {
+        match said {
+            Line::FromChunks(chunks) => {
+                let runs = runs_of(self.rt.alloc(), chunks.as_slice())?;
+                self.bufs.from_chunks(runs.as_slice())?;
+                println!(self.rt; "   accepted")?;
+                Ok(())
+            }
+            Line::Call(call) => self.trace_call(with_run(call)?),
         }
     }
-    Ok(bufs.from_chunks(runs.as_slice()))
-}
 
-// Performs a call on runs, and prints what it did.
-fn trace_call(
-    rt: &HostRuntime,
-    call: Call<Run>,
-    store: &Store,
-    bufs: &mut IoBufs<'_, Run>,
-) -> anyhow::Result<()> {
-    let splits = matches!(call, Call::SplitTo(_));
-    let mut slots = [Run::blank(); CHUNK_LIMIT];
-    let mut target = IoBufs::new(&mut slots);
-    // No more than this can be copied out.
-    let mut out = vec![in rt.alloc(); 0; bufs.remaining()]?;
-    match perform(call, bufs, store, &mut target, out.as_mut_slice()) {
-        Answer::Accepted if splits => {
-            let rows = Rows::read(rt.alloc(), store, &target)?;
-            let handed = HandedOut(rows.bordered());
-            println!(rt; "   {handed}")?;
-        }
-        Answer::Accepted => println!(rt; "   accepted")?,
-        Answer::Copied(count) => {
-            out.truncate(count);
-            let copied = Copied(out.as_slice());
-            println!(rt; "   {copied}")?;
-        }
-        Answer::Refused(fault) => println!(rt; "   {fault}")?,
+    // Prints what the container holds.
+    fn print_state(&self) -> anyhow::Result<()> {
+        let rows = rows_of(self.rt.alloc(), &self.store, &self.bufs)?;
+        let count = self.bufs.chunk_count();
+        let contents = Contents {
+            count,
+            remaining: self.bufs.remaining(),
+            chunks: Bordered(rows.as_slice()),
+        };
+        println!(self.rt; "   {contents}")?;
+        let totals = Totals {
+            capacity: self.bufs.capacity(),
+            writable: self.bufs.remaining_mut(),
+            free: self.bufs.limit().saturating_sub(count),
+        };
+        println!(self.rt; "   {totals}")?;
+        Ok(())
     }
-    Ok(())
-}
 
-// Does what was said, and prints what that did.
-fn trace_said(
-    rt: &HostRuntime,
-    said: Line,
-    store: &Store,
-    bufs: &mut IoBufs<'_, Run>,
-) -> anyhow::Result<()> {
-    match said {
-        Line::FromChunks(chunks) => match fill(rt.alloc(), chunks.as_slice(), bufs)? {
-            Ok(()) => println!(rt; "   accepted")?,
-            Err(fault) => println!(rt; "   {fault}")?,
-        },
-        Line::Call(call) => match with_run(call) {
-            Ok(call) => trace_call(rt, call, store, bufs)?,
-            Err(fault) => println!(rt; "   {fault}")?,
-        },
-    }
-    Ok(())
-}
-
-// Prints what the container holds.
-fn print_state(rt: &HostRuntime, store: &Store, bufs: &IoBufs<'_, Run>) -> anyhow::Result<()> {
-    let rows = Rows::read(rt.alloc(), store, bufs)?;
-    let count = bufs.chunk_count();
-    let contents = Contents {
-        count,
-        remaining: bufs.remaining(),
-        chunks: rows.bordered(),
-    };
-    println!(rt; "   {contents}")?;
-    let totals = Totals {
-        capacity: bufs.capacity(),
-        writable: bufs.remaining_mut(),
-        free: bufs.limit().saturating_sub(count),
-    };
-    println!(rt; "   {totals}")?;
-    Ok(())
-}
-
-// Does what one line says, if it says anything, and prints the line, the outcome and what the container then holds.
-fn trace_line(
-    rt: &HostRuntime,
-    number: usize,
-    line: &str,
-    store: &Store,
-    bufs: &mut IoBufs<'_, Run>,
-) -> anyhow::Result<()> {
-    let said = match read_line(rt.alloc(), line.as_bytes()) {
-        Ok(Some(said)) => said,
-        Ok(None) => return Ok(()),
-        Err(why) => {
-            eprintln!(rt; "line {number}: {why}: {line}")?;
-            return Err(anyhow!("a line cannot be read"));
+    // Does what one line says, if it says anything, and prints the line, the outcome and what the container then holds.
+    fn trace_line(&mut self, number: usize, line: &str) -> anyhow::Result<()> {
+        let found = read_line(self.rt.alloc(), line.as_bytes());
+        let Some(said) = announce(self.rt, number, line, found)? else {
+            return Ok(());
+        };
+        match self.trace_said(said) {
+            Ok(()) => {}
+            Err(Stop::Refused(fault)) => println!(self.rt; "   {fault}")?,
+            Err(Stop::Failed(error)) => return Err(error),
         }
-    };
-    println!(rt; "{number}: {line}")?;
-    trace_said(rt, said, store, bufs)?;
-    print_state(rt, store, bufs)
+        self.print_state()
+    }
 }
 
 fn main(rt: HostRuntime) -> anyhow::Result<()> {
-    let store = Store::new();
     let mut slots = [Run::blank(); CHUNK_LIMIT];
-    let mut bufs = IoBufs::new(&mut slots);
-    let mut number = 0usize;
-    for line in rt.lines(rt.alloc()) {
-        let line = line?;
-        number = number.saturating_add(1);
-        trace_line(&rt, number, line.as_str(), &store, &mut bufs)?;
+    let mut tracer = Tracer {
+        rt: &rt,
+        store: Store::new(),
+        bufs: IoBufs::new(&mut slots),
+    };
+    for (number, line) in (1usize..).zip(rt.lines(rt.alloc())) {
+        tracer.trace_line(number, line?.as_str())?;
     }
     Ok(())
 }

@@ -2,14 +2,14 @@
 use Rattle.std.specs.Prelude.{ℕ, List, ◌++◌, length, codes, decimal}
 use Rattle.report.specs.Hex.{hex_of}
 
--- bytes in brackets
+-- text in brackets
 abbrev pub bracketed : List ℕ → List ℕ
-bracketed bytes = codes " [" ++ (hex_of bytes ++ codes "]")
+bracketed text = codes " [" ++ (text ++ codes "]")
 
 -- an accepted call, with how many bytes it handed out, and which
 abbrev pub accepted_words : List ℕ → List ℕ
-accepted_words bytes = codes "accepted, handed out " ++ (decimal (length bytes) ++ bracketed bytes)
+accepted_words bytes = codes "accepted, handed out " ++ (decimal (length bytes) ++ bracketed (hex_of bytes))
 
 -- how many bytes a chunk holds, how many it could hold, and the bytes
 abbrev pub holds_words : List ℕ → ℕ → List ℕ
-holds_words bytes capacity = codes "remaining " ++ (decimal (length bytes) ++ (codes ", capacity " ++ (decimal capacity ++ bracketed bytes)))
+holds_words bytes capacity = codes "remaining " ++ (decimal (length bytes) ++ (codes ", capacity " ++ (decimal capacity ++ bracketed (hex_of bytes))))

@@ -1,4 +1,5 @@
 #![tactic(auto)]
 
 pub mod hex;
+pub mod line;
 pub mod outcome;

@@ -13,9 +13,7 @@ impl fmt::Display for Accepted<'_> {
     ghost output = { λ a. Some (accepted_words a.0.now) };
 
     fn fmt<W: fmt::Write>(&self, f: &mut fmt::Formatter<W>) -> fmt::Result {
-        let count = self.0.len();
-        let bytes = Hex(self.0);
-        write!(f, "accepted, handed out {count} [{bytes}]")
+        write!(f, "accepted, handed out {} [{}]", self.0.len(), Hex(self.0))
     }
 }
 
@@ -30,9 +28,12 @@ impl fmt::Display for Holds<'_> {
     ghost output = { λ h. Some (holds_words h.bytes.now h.capacity) };
 
     fn fmt<W: fmt::Write>(&self, f: &mut fmt::Formatter<W>) -> fmt::Result {
-        let remaining = self.bytes.len();
-        let capacity = self.capacity;
-        let bytes = Hex(self.bytes);
-        write!(f, "remaining {remaining}, capacity {capacity} [{bytes}]")
+        write!(
+            f,
+            "remaining {}, capacity {} [{}]",
+            self.bytes.len(),
+            self.capacity,
+            Hex(self.bytes)
+        )
     }
 }
