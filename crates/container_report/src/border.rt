@@ -10,7 +10,7 @@ use std::fmt;
 pub struct Bordered<'a>(pub &'a [Vec<u8>]);
 
 impl Bordered<'_> {
-    // How many bytes the chunks have. No number of chunks has too many to be counted.
+    // How many bytes the chunks have. A `u128` has room for the bytes of any number of chunks.
     pub fn byte_count(&self) -> u128
         ensures { result ≡ sum_by length (bytes_of self.now) }
     {

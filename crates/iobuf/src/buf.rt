@@ -13,7 +13,7 @@ pub struct IoBuf {
     ghost within: { place + len ≤ store_size },
 }
 
-// The `capacity` bytes of a store from where the readable ones begin: those behind them can be written.
+// `capacity` bytes of a store: the first of them can be read, and those behind them written.
 #[derive(Drop)]
 pub struct IoBufMut {
     readable: IoBuf,

@@ -23,7 +23,7 @@ pub trait Chunk: Sized + Drop {
     fn remaining(&self) -> usize
         ensures { result ≡ size self.now };
 
-    // How many bytes it has, and can be written behind them.
+    // How many bytes it has, with those that can be written behind them.
     fn capacity(&self) -> usize
         ensures { result ≡ size self.now + (tail self.now).count };
 
