@@ -34,11 +34,12 @@ pub struct Fault {
     pub available: usize,
 }
 
-impl fmt::Display for Refusal {
-    ghost output = { λ x. Some (refusal_words x) };
-
-    fn fmt<W: fmt::Write>(&self, f: &mut fmt::Formatter<W>) -> fmt::Result {
-        f.write_str(match self {
+impl Refusal {
+    // The refusal in plain words.
+    pub fn words(self) -> &'static str
+        ensures { result.now ≡ refusal_words self }
+    {
+        match self {
             Refusal::NotEnoughBytes => "not enough bytes",
             Refusal::OutputTooShort => "output too short",
             Refusal::NotEmpty => "container to be filled not empty",
@@ -48,7 +49,28 @@ impl fmt::Display for Refusal {
             Refusal::BeyondCapacity => "beyond the capacity",
             Refusal::LengthsDiffer => "lengths differ",
             Refusal::RunTooLong => "run too long",
-        })
+        }
+    }
+}
+
+impl Layer {
+    // The layer in plain words.
+    pub fn words(self) -> &'static str
+        ensures { result.now ≡ layer_words self }
+    {
+        match self {
+            Layer::Store => "store",
+            Layer::Chunk => "chunk",
+            Layer::Container => "container",
+        }
+    }
+}
+
+impl fmt::Display for Refusal {
+    ghost output = { λ x. Some (refusal_words x) };
+
+    fn fmt<W: fmt::Write>(&self, f: &mut fmt::Formatter<W>) -> fmt::Result {
+        f.write_str(self.words())
     }
 }
 
@@ -56,11 +78,7 @@ impl fmt::Display for Layer {
     ghost output = { λ x. Some (layer_words x) };
 
     fn fmt<W: fmt::Write>(&self, f: &mut fmt::Formatter<W>) -> fmt::Result {
-        f.write_str(match self {
-            Layer::Store => "store",
-            Layer::Chunk => "chunk",
-            Layer::Container => "container",
-        })
+        f.write_str(self.words())
     }
 }
 

@@ -56,21 +56,6 @@ loop-i-preserved g c =
     one_on : (xs ys : List Answer) (i : ℕ) → drop i xs ≡ drop i ys → drop (i + 1) xs ≡ drop (i + 1) ys
     one_on xs ys i e = sym (drop-drop 1 i xs) ∙ ap (drop 1) e ∙ drop-drop 1 i ys
 
-pub returns-clause-series : goal.returns-clause-series
-returns-clause-series g c =
-    let k = g.K.Chunk in
-    let m = c.args.store.now in
-    let b = c.args.bufs.now.ring in
-    let d = c.loop-i.bufs.ring in
-    let calls = c.args.calls.now in
-    let was = c.args.answers.now in
-    let noted = c.loop-i.answers in
-    let before = c.args.log.now in
-    let log = c.loop-i.log.bytes.now in
-    let f = step_of k (min chunk_limit (length c.args.slots.now)) 0 (length c.args.out.now) in
-    let all : Series k (λ s. map (f s) calls) m b d was noted before log = all_made k f m b before calls d was noted log c.loop-i.log.len c.loop-i.i c.loop-i.invariant.0 (omega arith) c.loop-i.invariant.1 (omega arith) in
-    subst (Series k (λ s. map (f s) calls) m b d was noted before) (search rules) all
-
 pub returns-clause-line : goal.returns-clause-line
 returns-clause-line g c =
     let k = g.K.Chunk in
