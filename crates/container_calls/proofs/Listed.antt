@@ -76,11 +76,6 @@ module _ {K : Type 0} (k : Ghosts K) (q : Call K) (m : Store) (r : Answer) (b c 
       ∙ ap (λ os. joined (target_after (made its_limit 0 m) (answer its_limit 0) []) ++ copied_bytes (told (answer its_limit 0)) os) turned.2
       ∙ (stands (limit b) (made its_limit 0 m) (values k m b) was).0
 
-  pub copied_within : CopiedWithin r is
-  copied_within =
-      let P : Answer → Type 0 = λ a. CopiedWithin a is in
-      subst P (sym same_answer) (subst (CopiedWithin (told (answer its_limit 0))) (sym turned.2) (stands (limit b) (made its_limit 0 m) (values k m b) was).1)
-
 -- The calls `first` of a list have been made, as f has them in each store: the container b then is c, the answers stand noted, and `at` bytes of those handed out are in the log.
 pub record SoFar {K : Type 0} (k : Ghosts K) (f : Store → Call K → Step) (m : Store) (b : Ring K) (before : List ℕ) (first : List (Call K)) (c : Ring K) (noted : List Answer) (log : List ℕ) (at : ℕ) : Type 0 where
   pub given : (s : Store) → noted ≡ map told (answers (limit b) (map (f s) first) (values k s b))

@@ -16,13 +16,6 @@ module _ {A : Type 0} (q : A → Bool) (xs : List A) (i : ℕ) (x : A) (h : i < 
   pub kept_over : q x ≡ false → filter q (drop i xs) ≡ filter q (drop (i + 1) xs)
   kept_over t = ap (filter q) (drop_at_item xs i x h e) ∙ cond-false (q x) _ _ t
 
-  -- it goes behind ts, or is passed over
-  pub kept_put : (ts : List A) → cond (q x) (ts ++ x ∷ []) ts ++ filter q (drop (i + 1) xs) ≡ ts ++ filter q (drop i xs)
-  kept_put ts =
-      cond_both (q x) (ts ++ x ∷ []) ts (λ us. us ++ filter q (drop (i + 1) xs) ≡ ts ++ filter q (drop i xs))
-      (λ t. append_assoc ts (x ∷ []) (filter q (drop (i + 1) xs)) ∙ ap (λ ys. ts ++ ys) (sym (kept_next t)))
-      (λ t. ap (λ ys. ts ++ ys) (sym (kept_over t)))
-
 -- Of the first m elements of xs, the first one goes behind ts, and n are still to go.
 module _ {A : Type 0} (m n : ℕ) (xs ys : List A) (x : A) (e : m ≡ n + 1) (f : xs ≡ x ∷ ys) where
   pub one_given : (ts us : List A) → us ≡ ts ++ x ∷ [] → us ++ take n ys ≡ ts ++ take m xs

@@ -18,10 +18,6 @@ drop_part p n k m h =
     let e : n ≡ k + (n - k) = omega arith in
     ap (λ i. drop k (part p i m)) e ∙ drop-take k (n - k) (drop p m) ∙ ap (take (n - k)) (drop-drop k p m)
 
--- the first k of a part are a part
-pub take_part : (p n k : ℕ) (m : List ℕ) → k ≤ n → take k (part p n m) ≡ part p k m
-take_part p n k m h = take-take k n (drop p m) h
-
 -- nothing written changes nothing
 pub laid_none : (a : ℕ) (m : List ℕ) → laid a [] m ≡ m
 unfolding laid

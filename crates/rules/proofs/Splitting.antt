@@ -39,32 +39,12 @@ module _ {A : Type 0} (size : A → ℕ) where
   abbrev pub from : ℕ → ℕ → List A → ℕ × ℕ
   from i left xs = (i + (cut_at size left (drop i xs)).0, (cut_at size left (drop i xs)).1)
 
-  -- the chunk there goes whole
-  pub from_next : (i left : ℕ) (xs : List A) (x : A) → i < length xs → x ≡ get_or xs i x → size x ≤ left → from i left xs ≡ from (i + 1) (left - size x) xs
-  from_next i left xs x h e k =
-      let ys = drop (i + 1) xs in
-      let whole : cut_at size left (drop i xs) ≡ past (cut_at size (left - size x) ys) =
-      ap (cut_at size left) (drop_at_item xs i x h e) ∙ cond-false (ltb left (size x)) (here left) (past (cut_at size (left - size x) ys)) (le-ltb left (size x) k) in
-      let count : i + suc (cut_at size (left - size x) ys).0 ≡ i + 1 + (cut_at size (left - size x) ys).0 = omega arith in
-      let behind : ℕ × ℕ → ℕ × ℕ = λ r. (i + r.0, r.1) in
-      let counted : ℕ → ℕ × ℕ = λ j. (j, (cut_at size (left - size x) ys).1) in
-      ap behind whole ∙ ap counted count
-
   -- the search ends there
   from_here : (i left : ℕ) (xs : List A) → cut_at size left (drop i xs) ≡ here left → ◌≡◌ {A = ℕ × ℕ} (i, left) (from i left xs)
   from_here i left xs e =
       let behind : ℕ × ℕ → ℕ × ℕ = λ r. (i + r.0, r.1) in
       let counted : ℕ → ℕ × ℕ = λ j. (j, left) in
       sym (ap behind e ∙ ap counted (add-zero i))
-
-  -- since the chunk is longer
-  pub from_longer : (i left : ℕ) (xs : List A) (x : A) → i < length xs → x ≡ get_or xs i x → left < size x → ◌≡◌ {A = ℕ × ℕ} (i, left) (from i left xs)
-  from_longer i left xs x h e k =
-      from_here i left xs (ap (cut_at size left) (drop_at_item xs i x h e) ∙ cond-true (ltb left (size x)) (here left) (past (cut_at size (left - size x) (drop (i + 1) xs))) (lt-ltb left (size x) k))
-
-  -- or since there is none
-  pub from_past : (i left : ℕ) (xs : List A) → length xs ≤ i → ◌≡◌ {A = ℕ × ℕ} (i, left) (from i left xs)
-  from_past i left xs h = from_here i left xs (ap (cut_at size left) (drop_all i xs h))
 
   module _ (v : A → Value) (sized : (x : A) → length (v x).bytes ≡ size x) where
     -- the first chunk goes whole

@@ -10,15 +10,6 @@ use Rattle.iobuf.specs.Values.{Value}
 use Rattle.rules.specs.Chunks.{joined}
 use Rattle.rules.proofs.Joined.{joined_append}
 
--- all bytes: those before chunk i, its own, and those after it
-pub joined_split : {K : Type 0} (v : K → Value) (xs : List K) (i : ℕ) (x : K) → i < length xs → x ≡ get_or xs i x
-    → joined (map v xs) ≡ joined (map v (take i xs)) ++ ((v x).bytes ++ joined (map v (drop (i + 1) xs)))
-joined_split v xs i x h e =
-    let r : drop i xs ≡ x ∷ drop (i + 1) xs = drop_more xs i x h ∙ ap (λ z. z ∷ drop (i + 1) xs) (sym e) in
-    ap (λ ys. joined (map v ys)) (sym (take-append-drop i xs) ∙ ap (λ ys. take i xs ++ ys) r)
-    ∙ ap joined (map-append v (take i xs) (x ∷ drop (i + 1) xs))
-    ∙ joined_append (map v (take i xs)) (map v (x ∷ drop (i + 1) xs))
-
 -- the next of n bytes are those of b, and k of them are written to out[at..n]
 module _ (b r out part : List ℕ) (n at k : ℕ) (h : at ≤ n) (ho : n ≤ length out) (e : k ≡ min (n - at) (length b)) (t : part ≡ take k b ++ drop k (take (n - at) (drop at out))) where
   -- of the bytes that are to come, those of b come first

@@ -64,28 +64,6 @@ module _ {K : Type 0} (v : K → Value) where
       ap (λ i. map v (drop m ys) ++ few i (map v (take m ys))) u ∙ ap (λ ws. map v (drop m ys) ++ ws) (sym one)
       ∙ sym (next_round m left xs ys x p) ∙ ap (λ i. rotated i left xs) (sym j)
 
-  pub rotate_start : (n left : ℕ) (xs : List K) → n ≡ length xs → rotated n left xs ≡ few left (map v xs)
-  rotate_start n left xs e = rw (drop_all n xs (omega arith), take_all n xs (omega arith)) refl
-
-  pub rotate_end : (n left : ℕ) (xs : List K) → n ≡ 0 → rotated n left xs ≡ map v xs
-  rotate_end n left xs e = ap (λ i. rotated i left xs) e ∙ append-nil (map v xs)
-
-  -- a front chunk is used up
-  pub front_used : (left size : ℕ) (xs ys : List K) (x : K) → xs ≡ x ∷ ys → size ≡ length (v x).bytes → 0 < left → size ≤ left → fronts_dropped (left - size) (map v ys) ≡ fronts_dropped left (map v xs)
-  front_used left size xs ys x p e h k =
-      ap (λ i. fronts_dropped (left - i) (map v ys)) e
-      ∙ sym (ap (λ ws. fronts_dropped left (map v ws)) p
-      ∙ cond-false (eqb left 0) _ _ (ne_eqb left 0 (λ z. omega arith))
-      ∙ cond-false (ltb left (length (v x).bytes)) (advanced left (v x) ∷ map v ys) (fronts_dropped (left - length (v x).bytes) (map v ys)) (le-ltb left (length (v x).bytes) (omega arith)))
-
-  -- a front chunk has more
-  pub front_part : (left : ℕ) (xs ys zs : List K) (x y : K) → xs ≡ x ∷ ys → zs ≡ y ∷ ys → 0 < left → left < length (v x).bytes → v y ≡ advanced left (v x) → fronts_dropped 0 (map v zs) ≡ fronts_dropped left (map v xs)
-  front_part left xs ys zs x y p q h k a =
-      ap (λ ws. fronts_dropped 0 (map v ws)) q ∙ ap (λ z. z ∷ map v ys) a
-      ∙ sym (ap (λ ws. fronts_dropped left (map v ws)) p
-      ∙ cond-false (eqb left 0) _ _ (ne_eqb left 0 (λ z. omega arith))
-      ∙ cond-true (ltb left (length (v x).bytes)) (advanced left (v x) ∷ map v ys) (fronts_dropped (left - length (v x).bytes) (map v ys)) (lt-ltb left (length (v x).bytes) k))
-
 pub sum_some : {K : Type 0} (f : K → ℕ) (xs : List K) → 0 < sum_by f xs → 0 < length xs
 sum_some f [] h = h
 sum_some f (x ∷ xs) h = omega arith
