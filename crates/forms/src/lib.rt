@@ -9,8 +9,7 @@ use store::fault::Fault;
 use store::space::Store;
 
 // Puts a chunk behind the others, if there is a slot for it.
-fn add<K: Chunk>(ring: &mut Ring<'_, K>, chunk: K)
-{
+fn add<K: Chunk>(ring: &mut Ring<'_, K>, chunk: K) {
     if ring.len() < ring.limit() {
         ring.push_back(chunk);
     }
@@ -22,8 +21,7 @@ fn put(
     store: &mut Store,
     bytes: &[u8],
     capacity: usize,
-) -> Result<(), Fault>
-{
+) -> Result<(), Fault> {
     let mut chunk = IoBufMut::reserve(store, capacity)?;
     let _ = chunk.fill(store, bytes);
     add(ring, chunk);
@@ -31,8 +29,7 @@ fn put(
 }
 
 // Readable bytes and capacity of the chunk `i`, if there is one.
-fn chunk<K: Chunk>(ring: &Ring<'_, K>, i: usize) -> Option<(usize, usize)>
-{
+fn chunk<K: Chunk>(ring: &Ring<'_, K>, i: usize) -> Option<(usize, usize)> {
     if i >= ring.len() {
         return None;
     }

@@ -1,20 +1,6 @@
--- The elements that a loop has still to look at, and what is kept of them.
-use Rattle.std.proofs.Common.{◌≡◌, ℕ, ◌+◌, ◌<◌, Bool, true, false, cond, List, [], ◌∷◌, ◌++◌, length, get_or, take, drop, filter, sym, ap, ◌∙◌, add-one}
-use Rattle.std.proofs.lemmas.List.{append_assoc, drop_more}
-use Rattle.std.proofs.lemmas.Bool.{cond_both, cond-true, cond-false}
-
--- the element i stands first of those from i on
-pub drop_at_item : {A : Type 0} (xs : List A) (i : ℕ) (x : A) → i < length xs → x ≡ get_or xs i x → drop i xs ≡ x ∷ drop (i + 1) xs
-drop_at_item xs i x h e = drop_more xs i x h ∙ ap (λ y. y ∷ drop (i + 1) xs) (sym e)
-
-module _ {A : Type 0} (q : A → Bool) (xs : List A) (i : ℕ) (x : A) (h : i < length xs) (e : x ≡ get_or xs i x) where
-  -- the next one is kept
-  pub kept_next : q x ≡ true → filter q (drop i xs) ≡ x ∷ filter q (drop (i + 1) xs)
-  kept_next t = ap (filter q) (drop_at_item xs i x h e) ∙ cond-true (q x) _ _ t
-
-  -- the next one is passed over
-  pub kept_over : q x ≡ false → filter q (drop i xs) ≡ filter q (drop (i + 1) xs)
-  kept_over t = ap (filter q) (drop_at_item xs i x h e) ∙ cond-false (q x) _ _ t
+-- Elements that go one by one from the front of one list behind another.
+use Rattle.std.proofs.Common.{◌≡◌, ℕ, ◌+◌, List, [], ◌∷◌, ◌++◌, take, drop, sym, ap, ◌∙◌, add-one}
+use Rattle.std.proofs.lemmas.List.{append_assoc}
 
 -- Of the first m elements of xs, the first one goes behind ts, and n are still to go.
 module _ {A : Type 0} (m n : ℕ) (xs ys : List A) (x : A) (e : m ≡ n + 1) (f : xs ≡ x ∷ ys) where

@@ -1,6 +1,6 @@
 -- Laws of parts, and of what is written over others.
 use Rattle.std.proofs.Common.{◌≡◌, ℕ, ◌+◌, ◌-◌, ◌≤◌, min, List, [], ◌++◌, length, take, drop, sym, ap, ◌∙◌, inl, inr, append_assoc, add-zero, arith, length-append, length-drop, take-append-drop, length-take}
-use Rattle.std.proofs.lemmas.List.{drop-append-le, drop_at, drop-drop, drop-take, take_all, take_at, take-take, length-take-le}
+use Rattle.std.proofs.lemmas.List.{drop-append-le, drop_at, drop-drop, drop-take, take_all, take_at, length-take-le}
 use Rattle.std.proofs.lemmas.Bool.{cases_lt}
 use borrow.Rule.Slice.PartMut.{put_mid}
 use Rattle.lists.specs.Parts.{part, laid, poured}

@@ -87,12 +87,7 @@ fn hand_piece<K: SharedChunk>(from: &mut Ring<'_, K>, n: usize, to: &mut Ring<'_
 }
 
 // The first `n` bytes go to an empty ring: whole chunks up to the border, and then a piece.
-fn hand_out<K: SharedChunk>(
-    from: &mut Ring<'_, K>,
-    n: usize,
-    border: Border,
-    to: &mut Ring<'_, K>,
-)
+fn hand_out<K: SharedChunk>(from: &mut Ring<'_, K>, n: usize, border: Border, to: &mut Ring<'_, K>)
     requires found { cut_at K.Chunk.size n (items from.old) ≡ (border.at, border.left) }
     requires within { n ≤ bytes_in K.Chunk from.old }
     requires empty { length (items to.old) ≤ 0 }

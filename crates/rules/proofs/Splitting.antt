@@ -1,10 +1,8 @@
 -- The search for the place of a cut, and the cut there.
-use Rattle.std.proofs.Common.{◌≡◌, ℕ, suc, ◌+◌, ◌-◌, ◌<◌, ◌≤◌, ltb, List, [], ◌∷◌, ◌++◌, map, length, get_or, take, drop, sym, refl, ap, ◌∙◌, add-zero, arith}
-use Rattle.std.proofs.lemmas.List.{drop_all}
+use Rattle.std.proofs.Common.{◌≡◌, ℕ, suc, ◌+◌, ◌-◌, ◌<◌, ◌≤◌, ltb, List, [], ◌∷◌, ◌++◌, map, length, take, drop, sym, refl, ap, ◌∙◌, arith}
 use Rattle.std.proofs.lemmas.Bool.{cond_both, cond-true, cond-false, ltb-true, ltb-false, lt-ltb, le-ltb}
 use Rattle.std.specs.List.{sum_by}
 use Rattle.std.proofs.lemmas.List.Sums.{sum_by-cons}
-use Rattle.lists.proofs.Loops.{drop_at_item}
 use Rattle.iobuf.specs.Values.{Value, advanced, first}
 use Rattle.rules.specs.Splitting.{fronts, rests, cut_at, with_piece, share, Ends}
 
@@ -38,13 +36,6 @@ module _ {A : Type 0} (size : A → ℕ) where
   -- the search goes on behind the first i chunks, with `left` bytes to take
   abbrev pub from : ℕ → ℕ → List A → ℕ × ℕ
   from i left xs = (i + (cut_at size left (drop i xs)).0, (cut_at size left (drop i xs)).1)
-
-  -- the search ends there
-  from_here : (i left : ℕ) (xs : List A) → cut_at size left (drop i xs) ≡ here left → ◌≡◌ {A = ℕ × ℕ} (i, left) (from i left xs)
-  from_here i left xs e =
-      let behind : ℕ × ℕ → ℕ × ℕ = λ r. (i + r.0, r.1) in
-      let counted : ℕ → ℕ × ℕ = λ j. (j, left) in
-      sym (ap behind e ∙ ap counted (add-zero i))
 
   module _ (v : A → Value) (sized : (x : A) → length (v x).bytes ≡ size x) where
     -- the first chunk goes whole

@@ -78,7 +78,7 @@ impl fmt::Display for Layer {
     ghost output = { λ x. Some (layer_words x) };
 
     fn fmt<W: fmt::Write>(&self, f: &mut fmt::Formatter<W>) -> fmt::Result {
-        f.write_str(self.words())
+        write!(f, "{}", self.words())
     }
 }
 

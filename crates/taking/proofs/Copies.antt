@@ -1,14 +1,11 @@
 -- The bytes of a list of chunks, written chunk after chunk.
-use Rattle.std.proofs.Common.{◌≡◌, ℕ, ◌+◌, ◌-◌, ◌<◌, ◌≤◌, min, List, ◌∷◌, ◌++◌, map, length, get_or, take, drop, sym, ap, ◌∙◌, inl, inr, arith, length-append, length-drop, length-take}
+use Rattle.std.proofs.Common.{◌≡◌, ℕ, ◌+◌, ◌-◌, ◌≤◌, min, List, ◌++◌, length, take, drop, sym, ap, ◌∙◌, inl, inr, arith, length-append, length-drop, length-take}
 use borrow.Rule.Slice.PartMut.{put_mid}
 use Rattle.std.proofs.Math.Seq.{take-append-add}
 use Rattle.std.proofs.lemmas.Bool.{cases_lt}
-use Rattle.std.proofs.lemmas.List.{append_assoc, length-take-le, map-append, take-append-drop, take-take, take_all, take_at, drop_more}
+use Rattle.std.proofs.lemmas.List.{append_assoc, length-take-le, take-take, take_all, take_at}
 use Rattle.std.proofs.lemmas.Slice.{take-put_mid, drop-put_mid}
 use Rattle.lists.proofs.Appends.{take_append}
-use Rattle.iobuf.specs.Values.{Value}
-use Rattle.rules.specs.Chunks.{joined}
-use Rattle.rules.proofs.Joined.{joined_append}
 
 -- the next of n bytes are those of b, and k of them are written to out[at..n]
 module _ (b r out part : List ℕ) (n at k : ℕ) (h : at ≤ n) (ho : n ≤ length out) (e : k ≡ min (n - at) (length b)) (t : part ≡ take k b ++ drop k (take (n - at) (drop at out))) where

@@ -1,4 +1,3 @@
-pub mod Fits
 pub mod Sums
 pub mod Rounds
 pub mod Copies

@@ -1,7 +1,7 @@
 -- One turn of a loop that takes bytes from the front of a list of chunks.
-use Rattle.std.proofs.Common.{◌≡◌, ℕ, ◌+◌, ◌-◌, ◌<◌, ◌≤◌, min, Bool, true, false, eqb, ltb, List, [], ◌∷◌, ◌++◌, map, length, take, drop, Ok, Err, Result, sym, refl, ap, ◌∙◌, ⊎_elim, add-one, arith, MatchResult}
-use Rattle.std.proofs.lemmas.List.{append_assoc, append-nil, drop_all, take_all, take-append-le, drop-append-le, map-append}
-use Rattle.std.proofs.lemmas.Bool.{cond-true, cond-false, lt-ltb, le-ltb, ne_eqb, cases_lt}
+use Rattle.std.proofs.Common.{◌≡◌, ℕ, ◌+◌, ◌-◌, ◌<◌, ◌≤◌, min, Bool, true, false, ltb, List, [], ◌∷◌, ◌++◌, map, length, take, drop, Ok, Err, Result, sym, refl, ap, ◌∙◌, ⊎_elim, add-one, arith, MatchResult}
+use Rattle.std.proofs.lemmas.List.{append_assoc, drop_all, take-append-le, drop-append-le, map-append}
+use Rattle.std.proofs.lemmas.Bool.{cond-true, cond-false, cases_lt}
 use Rattle.std.specs.List.{sum_by}
 use Rattle.iobuf.specs.Values.{Value, Tail, advanced}
 use Rattle.rules.specs.Chunks.{kept}

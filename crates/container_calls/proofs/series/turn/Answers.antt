@@ -23,7 +23,7 @@ returns-clause-log g c =
     let more = c.write.ensures in
     let long = ap length share.bytes ∙ length_poured at bs log c.args.log.now.within in
     let out = handed_on k c.args.call m made.result c.args.bufs.now.ring made.new.bufs.ring new.result.ring made.new.target.ring c.args.out.now made.new.out
-        (min chunk_limit (length c.args.slots.now)) made.ensures.performed new.ensures.chunks new.ensures.limit in
+    (min chunk_limit (length c.args.slots.now)) made.ensures.performed new.ensures.chunks new.ensures.limit in
     record {
       slice = more.slice ∙ share.slice;
       bytes = more.bytes ∙ ap (λ s. poured c.share.new.self.len s c.share.new.self.bytes.now) copy ∙ ap (poured c.share.new.self.len cs) share.bytes

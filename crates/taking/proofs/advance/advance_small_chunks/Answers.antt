@@ -39,4 +39,3 @@ loop-preserved g c =
                 ∙ c.loop.invariant.2 s,
           ))
     ]
-

@@ -45,4 +45,3 @@ loop-chunk-preserved g c =
       is ∙ ap (λ bs. take at out ++ take (n - at) bs) (sym j) ∙ c.loop-chunk.invariant.2,
       past ∙ c.loop-chunk.invariant.3,
     )
-
