@@ -1,4 +1,4 @@
-// One call on a chunk, with its numbers.
+// One call on a chunk, with its numbers. It is a value, since a line of text says it.
 #[derive(Clone, Copy, PartialEq, Eq, Debug)]
 pub enum Call {
     // Makes the chunk a run of `count` bytes, all `byte`.

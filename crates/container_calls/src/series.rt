@@ -1,4 +1,5 @@
-// A list of calls, performed one after another.
+// A list of calls, performed one after another. What a caller lends stays apart: a struct of the borrows would have to
+// promise after each call that they are still the same.
 ghost use Rattle.std.specs.Prelude.{◌≡◌, ◌+◌, ◌≤◌, min, length, MatchResult, OnOk};
 ghost use Rattle.store.specs.Faults.{Short, output_too_short};
 ghost use Rattle.store.specs.Sizes.{chunk_limit};

@@ -5,7 +5,8 @@ ghost use Rattle.container_report.specs.Borders.{bordered, bytes_of};
 use report::hex::Hex;
 use std::fmt;
 
-// The bytes of chunks, that are shown as `01 01 | 02`.
+// The bytes of chunks, that are shown as `01 01 | 02`. A loop shared with that of `Hex` would take what it prints as a
+// closure, and ask something of its caller.
 #[derive(Clone, Copy)]
 pub struct Bordered<'a>(pub &'a [Vec<u8>]);
 

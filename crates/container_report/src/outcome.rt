@@ -23,7 +23,8 @@ impl fmt::Display for HandedOut<'_> {
     }
 }
 
-// The bytes that a call copied out.
+// The bytes that a call copied out. One type for all that is accepted would have to be told the count, and could be told
+// a wrong one.
 #[derive(Clone, Copy)]
 pub struct Copied<'a>(pub &'a [u8]);
 

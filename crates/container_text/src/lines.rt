@@ -19,7 +19,8 @@ pub enum Line {
     Call(Call<Spelled>),
 }
 
-// The chunk that is the only word of what stands behind a call's name.
+// The chunk that is the only word of what stands behind a call's name. It stays beside `last_number`: a public function
+// over the reader would have to ask something of its caller.
 fn last_chunk(text: &[u8]) -> Result<Spelled, Unreadable>
     ensures { result ≡ last_chunk text.now }
 {

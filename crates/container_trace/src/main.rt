@@ -71,7 +71,8 @@ fn runs_of(heap: Global, chunks: &[Spelled]) -> Result<Vec<Run>, Stop> {
         .try_collect(heap)
 }
 
-// The call on the run that is spelled.
+// The call on the run that is spelled. A method of `Call` that maps its chunk would take a closure, and ask something of
+// its caller.
 fn with_run(call: Call<Spelled>) -> Result<Call<Run>, Fault> {
     Ok(match call {
         Call::Append(chunk) => Call::Append(chunk.try_into()?),
@@ -82,7 +83,8 @@ fn with_run(call: Call<Spelled>) -> Result<Call<Run>, Fault> {
     })
 }
 
-// A container of runs that calls are performed on, its store, and where it is printed what they did.
+// A container of runs that calls are performed on, its store, and where it is printed what they did. The program for one
+// chunk has one of its own: the two hold other things and show other things, and share how a line is announced.
 #[derive(Drop)]
 struct Tracer<'a> {
     rt: &'a HostRuntime,

@@ -5,7 +5,7 @@ pub mod shared;
 pub mod steps;
 pub mod writable;
 
-// The `len` bytes of a store from `place` on.
+// The `len` bytes of a store from `place` on. It is a place and not a slice, so that the store can be written meanwhile.
 #[derive(Clone, Copy)]
 pub struct IoBuf {
     place: usize,

@@ -61,7 +61,8 @@ pub fn append<K: SharedChunk>(ring: &mut Ring<'_, K>, chunk: K) -> Result<(), Fa
     Ok(())
 }
 
-// Puts a chunk in front of the others. One that is not kept is accepted, and nothing happens.
+// Puts a chunk in front of the others. One that is not kept is accepted, and nothing happens. One function for both ends
+// would take the end as a flag, or a closure whose effect each contract would have to spell out.
 pub fn prepend<K: SharedChunk>(ring: &mut Ring<'_, K>, chunk: K) -> Result<(), Fault>
     ensures { PutIn K.Chunk chunk (chunk ∷ items ring.old) result ring.old ring.new }
 {

@@ -7,8 +7,8 @@ pub mod iter;
 mod reads;
 mod steps;
 
-// A list in slots that a caller lends: `len` elements, the first in the slot `head` and each of the others in the next
-// one, around the end.
+// A list in slots that a caller lends, since no container uses the heap: `len` elements, the first in the slot `head` and
+// each of the others in the next one, around the end.
 #[derive(Drop)]
 pub struct Ring<'a, T> {
     slots: &'a mut [T],

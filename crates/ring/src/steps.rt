@@ -1,4 +1,4 @@
-// The steps of a ring, on a slice of slots and plain numbers.
+// The steps of a ring, on a slice of slots and plain numbers, which carry no facts of their own.
 ghost use Rattle.std.specs.Prelude.{◌≡◌, ℕ, ◌<◌, ◌≤◌, ◌++◌, length, slice_index_or, slice_set};
 ghost use Rattle.lists.specs.Rings.{Place, turned};
 ghost use Rattle.ring.specs.Slots.{Lies};

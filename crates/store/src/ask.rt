@@ -34,7 +34,8 @@ pub fn places(called: Layer, n: usize, places: usize) -> Result<(), Fault>
     enough(Refusal::OutputTooShort, called, n, places)
 }
 
-// Is the container that is to be filled empty? It holds `held` chunks.
+// Is the container that is to be filled empty? It holds `held` chunks. What is asked for here is the smaller number, so
+// `enough` would not be plainer.
 pub fn empty(held: usize) -> Result<(), Fault>
     ensures { MatchResult result (λ _. held ≤ 0) (Short held 0 (not_empty held)) }
 {

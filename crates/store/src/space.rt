@@ -5,7 +5,8 @@ use crate::sizes::STORE_SIZE;
 
 pub mod calls;
 
-// The bytes that chunks lie in, of which the first `used` are given out.
+// The bytes that chunks lie in, of which the first `used` are given out. They are a fixed array, since no container uses
+// the heap, and those that are not given out can be seen.
 #[derive(Drop)]
 pub struct Store {
     bytes: [u8; STORE_SIZE],

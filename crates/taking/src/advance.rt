@@ -1,3 +1,4 @@
+// Taking bytes. That there are `n` of them is a fact about two arguments, which no type of one of them can hold.
 ghost use Rattle.std.specs.Prelude.{◌≡◌, ◌+◌, ◌≤◌, length, MatchResult, nat_le, nat_lt};
 ghost use Rattle.store.specs.Faults.{Short, not_enough_bytes};
 ghost use Rattle.ring.specs.Model.{items};
@@ -73,7 +74,7 @@ pub fn form(count: usize) -> Form
     }
 }
 
-// Takes the first `n` bytes, which are there, in the form that is given.
+// Takes the first `n` bytes, which are there, in the form that is given: a value, chosen once before anything is taken.
 pub fn take_in<K: Chunk>(form: Form, ring: &mut Ring<'_, K>, n: usize)
     requires { n ≤ bytes_in K.Chunk ring.old }
     ensures { Left K.Chunk (left_in form n) ring.old ring.new }

@@ -1,3 +1,5 @@
+// Copying bytes out. The store, the count and the output go together as the arguments of one call, in the order of the
+// Rust.
 ghost use Rattle.std.specs.Prelude.{◌≡◌, ◌<◌, ◌≤◌, ◌++◌, length, take, drop, MatchResult};
 ghost use Rattle.store.specs.Faults.{Unwritten};
 ghost use Rattle.ring.specs.Model.{items};
@@ -36,7 +38,7 @@ fn first_has<K: Chunk>(ring: &Ring<'_, K>, n: usize) -> bool
 }
 
 // Writes the first `n` bytes to the front of `out`. The answer is how many, and whether the front chunk must be
-// dropped, tail and all.
+// dropped, tail and all: a pair, as it is in the Rust, which this port keeps.
 pub fn copy_to_bytes_small_chunks<K: Chunk>(
     ring: &Ring<'_, K>,
     store: &Store,
@@ -68,7 +70,7 @@ fn copy_front<K: Chunk>(ring: &Ring<'_, K>, store: &Store, n: usize, out: &mut [
     copy_out(ring, store, n, out);
 }
 
-// The same for form many, where the front chunk often has all the bytes.
+// The same for form many, where the front chunk often has all the bytes. The answer is that pair too.
 pub fn copy_to_bytes_chunked<K: Chunk>(
     ring: &Ring<'_, K>,
     store: &Store,
@@ -93,7 +95,8 @@ fn drop_front<K: Chunk>(ring: &mut Ring<'_, K>)
     let _ = ring.pop_front(K::blank());
 }
 
-// Takes the first `n` bytes, which have been copied: the front chunk goes whole, or they are taken by the form.
+// Takes the first `n` bytes, which have been copied: the front chunk goes whole, or they are taken by the form. `whole`
+// is the yes or no of that pair.
 fn take_copied<K: Chunk>(ring: &mut Ring<'_, K>, whole: bool, n: usize)
     requires within { n ≤ bytes_in K.Chunk ring.old }
     requires first { whole ≡ first_has K.Chunk n ring.old }

@@ -11,7 +11,7 @@ fn hex_digit(b: u8) -> Option<u8>
     Some(digit as u8)
 }
 
-// The byte that two hexadecimal digits write.
+// The byte that two hexadecimal digits write. The library's `from_str_radix` would take a sign.
 pub fn hex_byte(word: &[u8]) -> Option<u8>
     ensures { result ≡ byte_of word.now }
 {
