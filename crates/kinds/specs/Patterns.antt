@@ -1,5 +1,5 @@
 -- Laws of bytes that count up.
-use Rattle.std.specs.Prelude.{◌≡◌, ℕ, zero, suc, ◌+◌, ◌-◌, ◌%◌, ◌<◌, List, [], ◌∷◌, ◌++◌, min, length, take, drop, slice_set, refl}
+use Rattle.std.specs.Prelude.{◌≡◌, ℕ, zero, suc, ◌+◌, ◌-◌, ◌%◌, ◌<◌, List, [], ◌∷◌, ◌++◌, min, length, take, drop, slice_index_or, slice_set, refl}
 use Rattle.std.proofs.Common.{sym, ap, ◌∙◌, add-zero, arith}
 use Rattle.std.proofs.Math.Nat.{sub-zero}
 use Rattle.std.proofs.lemmas.List.{drop_more, set_at}
@@ -37,6 +37,12 @@ drop_on (suc k) s (suc n) =
 -- without the first k they count up from k further on
 pub drop_rising : (k s n t m : ℕ) → t ≡ (s + k) % 256 → m ≡ n - k → drop k (rising s n) ≡ rising t m
 drop_rising k s n t m e f = drop_on k s n ∙ same_rising (s + k) t (n - k) (omega arith) ∙ ap (rising t) (sym f)
+
+-- the byte i
+pub get_or_rising : (i s n d : ℕ) → i < n → slice_index_or (rising s n) i d ≡ (s + i) % 256
+get_or_rising i s zero d h = absurd (omega arith)
+get_or_rising zero s (suc n) d h = ap (λ k. k % 256) (omega arith)
+get_or_rising (suc i) s (suc n) d h = get_or_rising i (s + 1) n d (omega arith) ∙ ap (λ k. k % 256) (omega arith)
 
 -- one byte more
 rising_more : (s n : ℕ) → rising s (suc n) ≡ rising s n ++ (s + n) % 256 ∷ []
