@@ -26,3 +26,19 @@ pub fn announce<T: Drop, E: Display + Drop>(
         }
     }
 }
+
+#[cfg(test)]
+mod tests {
+    use super::*;
+
+    #[test]
+    fn announces_a_line(rt: HostRuntime) {
+        let said: Result<Option<u8>, &str> = Ok(Some(3));
+        let found = announce(&rt, 1, "cut 3", said);
+        assert!(rt; matches!(found, Ok(Some(3))));
+        let nothing: Result<Option<u8>, &str> = Ok(None);
+        assert!(rt; matches!(announce(&rt, 2, "", nothing), Ok(None)));
+        let unread: Result<Option<u8>, &str> = Err("not a call");
+        assert!(rt; announce(&rt, 3, "cot 3", unread).is_err());
+    }
+}
