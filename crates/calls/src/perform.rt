@@ -23,6 +23,7 @@ pub fn perform(
     ensures refused { OnErr result (page.new ≡ page.old) }
     ensures output { out.new ≡ put (handed call (run_bytes page.old)) out.old }
 {
+    // A call is a value, since a line of text says it.
     match call {
         Call::Run { byte, count } => {
             *page = Run::new(byte, count)?;

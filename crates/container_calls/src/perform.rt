@@ -26,6 +26,7 @@ pub fn perform<K: SharedChunk>(
     ensures laws { LawOfRuns K.Chunk }
 {
     laws::<K>();
+    // A call is a value, since lines of text say it and the laws speak of lists of them.
     match call {
         Call::Append(chunk) => steps::append(bufs, chunk),
         Call::Prepend(chunk) => steps::prepend(bufs, chunk),

@@ -91,6 +91,7 @@ fn in_turn<K: SharedChunk>(
 {
     laws::<K>();
     let mut log = Log { bytes: log, len: 0 };
+    // Of places that `zip` went over, a proof would not know what was written there.
     for (i, call) in calls.iter().enumerate() {
         answers[i] = turn(*call, bufs, store, slots, out, &mut log);
     }

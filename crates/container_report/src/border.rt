@@ -5,8 +5,8 @@ ghost use Rattle.container_report.specs.Borders.{bordered, bytes_of};
 use report::hex::Hex;
 use std::fmt;
 
-// The bytes of chunks, that are shown as `01 01 | 02`. A loop shared with that of `Hex` would take what it prints as a
-// closure, and ask something of its caller.
+// The bytes of chunks, that are shown as `01 01 | 02`. A loop shared with that of `Hex` would need a
+// trait for the two kinds of items, and be no plainer.
 #[derive(Clone, Copy)]
 pub struct Bordered<'a>(pub &'a [Vec<u8>]);
 

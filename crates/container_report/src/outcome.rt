@@ -6,7 +6,8 @@ use crate::border::Bordered;
 use report::hex::Hex;
 use std::fmt;
 
-// The chunks that a call handed out.
+// The chunks that a call handed out. One type for bytes and chunks would have to be told the count, and could be told a
+// wrong one.
 #[derive(Clone, Copy)]
 pub struct HandedOut<'a>(pub Bordered<'a>);
 
@@ -23,8 +24,8 @@ impl fmt::Display for HandedOut<'_> {
     }
 }
 
-// The bytes that a call copied out. One type for all that is accepted would have to be told the count, and could be told
-// a wrong one.
+// The bytes that a call copied out. What `report` shows of an accepted call differs in one word; a type for both would be
+// told the word, and be no plainer than two of one `write!` each.
 #[derive(Clone, Copy)]
 pub struct Copied<'a>(pub &'a [u8]);
 

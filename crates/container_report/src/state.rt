@@ -5,7 +5,7 @@ ghost use Rattle.container_report.specs.States.{contents_words, totals_words};
 use crate::border::Bordered;
 use std::fmt;
 
-// The chunks of a container: how many, how many bytes, and the bytes.
+// The chunks of a container: how many, how many bytes, and the bytes. The counts are what the container itself answers.
 #[derive(Clone, Copy)]
 pub struct Contents<'a> {
     pub count: usize,

@@ -19,8 +19,8 @@ pub enum Line {
     Call(Call<Spelled>),
 }
 
-// The chunk that is the only word of what stands behind a call's name. It stays beside `last_number`: a public function
-// over the reader would have to ask something of its caller.
+// The chunk that is the only word of what stands behind a call's name. It stays beside `last_number`: a trait for the
+// two types that a word can be read as would be longer than both.
 fn last_chunk(text: &[u8]) -> Result<Spelled, Unreadable>
     ensures { result ≡ last_chunk text.now }
 {

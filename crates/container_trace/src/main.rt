@@ -71,8 +71,8 @@ fn runs_of(heap: Global, chunks: &[Spelled]) -> Result<Vec<Run>, Stop> {
         .try_collect(heap)
 }
 
-// The call on the run that is spelled. A method of `Call` that maps its chunk would take a closure, and ask something of
-// its caller.
+// The call on the run that is spelled. A method of `Call` that does this for any two chunks would be as long, and used
+// here alone.
 fn with_run(call: Call<Spelled>) -> Result<Call<Run>, Fault> {
     Ok(match call {
         Call::Append(chunk) => Call::Append(chunk.try_into()?),
@@ -118,7 +118,7 @@ impl Tracer<'_> {
         Ok(())
     }
 
-    // Does what was said, and prints what that did.
+    // Does what was said, which is a value because a line was read as it, and prints what that did.
     fn trace_said(&mut self, said: Line) -> Result<(), Stop> {
         match said {
             Line::FromChunks(chunks) => {

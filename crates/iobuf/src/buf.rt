@@ -13,7 +13,8 @@ pub struct IoBuf {
     ghost within: { place + len ≤ store_size },
 }
 
-// `capacity` bytes of a store: the first of them can be read, and those behind them written.
+// `capacity` bytes of a store: the first of them can be read, and those behind them written. They are no slice either, for
+// the same reason.
 #[derive(Drop)]
 pub struct IoBufMut {
     readable: IoBuf,

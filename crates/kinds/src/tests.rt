@@ -11,7 +11,7 @@ use store::fault::{Fault, Layer, Refusal};
 use store::sizes::STORE_SIZE;
 use store::space::Store;
 
-// The four numbers of a refusal.
+// The four numbers of a refusal, by which the rules give it.
 fn told(fault: Fault) -> [usize; 4] {
     [
         fault.number() as usize,

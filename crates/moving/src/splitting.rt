@@ -25,7 +25,8 @@ struct Border {
     left: usize,
 }
 
-// The search for the border behind `n` bytes: it ends at the first chunk that is longer than what is still to take.
+// The search for the border behind `n` bytes: it ends at the first chunk that is longer than what is still to take. It
+// counts by hand, since it has to end with a place, and the port keeps the form of a loop that breaks with it.
 fn find<K: Chunk>(ring: &Ring<'_, K>, n: usize) -> Border
     ensures found { (result.at, result.left) ≡ cut_at K.Chunk.size n (items ring.now) }
     ensures within { result.at ≤ length (items ring.now) }

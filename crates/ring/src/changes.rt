@@ -3,7 +3,8 @@ ghost use Rattle.ring.specs.Model.{first_slot, items, limit};
 
 use crate::{Blanks, Ring, steps};
 
-// A step is lent the slots, so each of these reads the numbers first.
+// A step is lent the slots, so each of these reads the numbers first. Each promises that the limit stays: what a call
+// leaves alone is a promise of its own.
 impl<'a, T> Ring<'a, T> {
     // Takes the first element out, and leaves `blank` in its slot.
     pub fn pop_front(&mut self, blank: T) -> T

@@ -80,8 +80,7 @@ pub fn take_in<K: Chunk>(form: Form, ring: &mut Ring<'_, K>, n: usize)
     ensures { Left K.Chunk (left_in form n) ring.old ring.new }
 {
     match form {
-        Form::One => advance_small_chunks(ring, n),
-        Form::Small => advance_small_chunks(ring, n),
+        Form::One | Form::Small => advance_small_chunks(ring, n),
         Form::Many => advance_chunked_front(ring, n),
     }
 }

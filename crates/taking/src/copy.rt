@@ -1,5 +1,5 @@
 // Copying bytes out. The store, the count and the output go together as the arguments of one call, in the order of the
-// Rust.
+// Rust. That the bytes and the places are there are facts about two arguments, which no type of one of them can hold.
 ghost use Rattle.std.specs.Prelude.{◌≡◌, ◌<◌, ◌≤◌, ◌++◌, length, take, drop, MatchResult};
 ghost use Rattle.store.specs.Faults.{Unwritten};
 ghost use Rattle.ring.specs.Model.{items};
@@ -109,7 +109,8 @@ fn take_copied<K: Chunk>(ring: &mut Ring<'_, K>, whole: bool, n: usize)
     }
 }
 
-// Copies the first `n` bytes to the first `n` places of `out`, and takes them.
+// Copies the first `n` bytes to the first `n` places of `out`, and takes them. The form is a value, chosen once before
+// anything is taken.
 pub fn copy_to_bytes<K: Chunk>(
     ring: &mut Ring<'_, K>,
     store: &Store,

@@ -57,7 +57,7 @@ impl Store {
     }
 }
 
-// Do the `n` bytes from `place` on lie within a store?
+// Do the `n` bytes from `place` on lie within a store? The two numbers stay apart, as callers give them: they may be any.
 fn within(place: usize, n: usize) -> bool
     ensures { result ≡ nat_le (place + n) store_size }
 {
