@@ -33,18 +33,17 @@ fn find<K: Chunk>(ring: &Ring<'_, K>, n: usize) -> Border
 {
     let mut i = 0;
     let mut left = n;
-    let (at, left) = loop {
+    loop {
         if i >= ring.len() {
-            break (i, left);
+            break Border { at: i, left };
         }
         let size = ring.at(i).remaining();
         if longer(size, left) {
-            break (i, left);
+            break Border { at: i, left };
         }
         left -= size;
         i += 1;
-    };
-    Border { at, left }
+    }
 }
 
 impl Border {
@@ -80,10 +79,8 @@ fn hand_piece<K: SharedChunk>(from: &mut Ring<'_, K>, n: usize, to: &mut Ring<'_
     ensures { Handed K.Chunk (fronts n) (rests n) from.old from.new to.old to.new }
 {
     let mut chunk = from.pop_front(K::blank());
-    match chunk.cut(n) {
-        Ok(piece) => to.push_back(piece),
-        Err(_) => unreachable(),
-    }
+    to.push_back(chunk.first(n));
+    chunk.skip(n);
     from.push_front(chunk);
 }
 

@@ -27,7 +27,7 @@ pub fn advance_small_chunks<K: Chunk>(ring: &mut Ring<'_, K>, n: usize)
     for _ in 0..ring.len() {
         let mut chunk = ring.pop_front(K::blank());
         let k = due.min(chunk.remaining());
-        let _ = chunk.advance(k);
+        chunk.skip(k);
         due -= k;
         if kept(&chunk) {
             ring.push_back(chunk);
@@ -54,7 +54,7 @@ pub fn advance_chunked_front<K: Chunk>(ring: &mut Ring<'_, K>, n: usize)
         if used_up(size, left) {
             left -= size;
         } else {
-            let _ = chunk.advance(left);
+            chunk.skip(left);
             ring.push_front(chunk);
             left = 0;
         }

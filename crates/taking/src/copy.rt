@@ -24,9 +24,8 @@ fn copy_out<K: Chunk>(ring: &Ring<'_, K>, store: &Store, n: usize, out: &mut [u8
 {
     let mut at = 0;
     for chunk in ring.iter() {
-        let k = (n - at).min(chunk.remaining());
-        let _ = chunk.write_out(store, k, &mut out[at..n]);
-        at += k;
+        chunk.pour_out(store, &mut out[at..n]);
+        at += chunk.remaining().min(n - at);
     }
 }
 
@@ -63,7 +62,7 @@ fn copy_front<K: Chunk>(ring: &Ring<'_, K>, store: &Store, n: usize, out: &mut [
     if ring.len() > 0 {
         let front = ring.at(0);
         if n <= front.remaining() {
-            let _ = front.write_out(store, n, out);
+            front.pour_out(store, &mut out[..n]);
             return;
         }
     }

@@ -1,9 +1,7 @@
-use Rattle.std.proofs.Common.{◌≡◌, ◌-◌, min, ◌++◌, map, length, take, drop, sym, refl, ap, ◌∙◌, arith, length-append}
-use Rattle.std.proofs.lemmas.List.{length-drop, length-take-le}
+use Rattle.std.proofs.Common.{◌≡◌, ◌-◌, min, ◌++◌, map, length, take, sym, refl, ap, ◌∙◌, arith, length-append}
 use Rattle.ring.specs.Model.{items}
 use Rattle.rules.specs.Chunks.{joined}
 use Rattle.taking.proofs.Sums.{sum_sizes}
-use Rattle.taking.proofs.Rounds.{surely}
 use Rattle.taking.proofs.Copies.{copied_more, copied_past}
 use Rattle.taking.proofs.copy.copy_out.Goals as goal
 
@@ -35,11 +33,9 @@ loop-chunk-preserved g c =
     let r = joined (map v c.next.new.self) in
     let j : joined (map v c.loop-chunk.chunk-iterator) ≡ b ++ r = ap (λ ys. joined (map v ys)) c.in-Some.ensures.steps in
     let size : c.remaining.result ≡ length b = c.remaining.ensures ∙ sym (laws.sized s x) in
-    let k : c.min-k.result ≡ min (n - at) (length b) = c.min-k.ensures ∙ ap (min (n - at)) size in
-    let fits : length (take (n - at) (drop at out)) ≡ n - at = length-take-le (n - at) (drop at out) (simp length-drop (omega arith)) in
-    let w = surely c.write_out.result c.write_out.ensures (λ y q. omega (arith, q.0.fewer, fits)) in
-    let is = copied_more b r out c.write_out.new.out n at c.min-k.result (omega arith) (omega arith) k w.after in
-    let past = copied_past b r out c.write_out.new.out n at c.min-k.result (omega arith) (omega arith) k w.after in (
+    let k : c.min-at.result ≡ min (n - at) (length b) = omega (arith, c.min-at.ensures, size) in
+    let is = copied_more b r out c.pour_out.new.out n at c.min-at.result (omega arith) (omega arith) k c.pour_out.ensures in
+    let past = copied_past b r out c.pour_out.new.out n at c.min-at.result (omega arith) (omega arith) k c.pour_out.ensures in (
       omega arith,
       omega (arith, k, ap length j, length-append b r),
       is ∙ ap (λ bs. take at out ++ take (n - at) bs) (sym j) ∙ c.loop-chunk.invariant.2,
