@@ -8,7 +8,7 @@ use crate::chunks::{Spelled, chunk_word};
 use container_calls::call::Call;
 use std::alloc::Global;
 use text::arguments::{alone, last_number};
-use text::unreadable::Unreadable;
+pub use text::unreadable::Unreadable;
 use text::words::{Words, next_word, split_name};
 
 // What a line says.
@@ -42,15 +42,16 @@ fn chunk_list(heap: Global, text: &[u8]) -> Result<Vec<Spelled>, Unreadable>
 }
 
 // The call of that name, with what it is given from `rest`.
+#[tactic(auto, using(crate::proofs::Names::unknown))]
 fn call_named(name: &[u8], rest: &[u8]) -> Result<Call<Spelled>, Unreadable>
     ensures { result ≡ named name.now rest.now }
 {
-    match str::from_utf8(name) {
-        Ok("append") => last_chunk(rest).map(Call::Append),
-        Ok("prepend") => last_chunk(rest).map(Call::Prepend),
-        Ok("advance") => last_number(rest).map(Call::Advance),
-        Ok("split_to") => last_number(rest).map(Call::SplitTo),
-        Ok("copy_to_bytes") => last_number(rest).map(Call::CopyToBytes),
+    match name {
+        b"append" => last_chunk(rest).map(Call::Append),
+        b"prepend" => last_chunk(rest).map(Call::Prepend),
+        b"advance" => last_number(rest).map(Call::Advance),
+        b"split_to" => last_number(rest).map(Call::SplitTo),
+        b"copy_to_bytes" => last_number(rest).map(Call::CopyToBytes),
         _ => Err(Unreadable::UnknownCall),
     }
 }

@@ -52,15 +52,31 @@ fn bytes_of(heap: Global, store: &Store, chunk: &Run) -> Result<Vec<u8>, AllocEr
     Ok(bytes)
 }
 
-// The bytes of each chunk of a container.
-fn rows_of(
-    heap: Global,
-    store: &Store,
-    bufs: &IoBufs<'_, Run>,
-) -> Result<Vec<Vec<u8>>, AllocError> {
-    bufs.iter()
-        .map(|chunk| bytes_of(heap, store, chunk))
-        .try_collect(heap)
+// The chunks of a container as they are shown: their bytes, one chunk behind the other, and their sizes, as `Bordered`
+// takes them.
+#[derive(Drop)]
+struct Rows {
+    bytes: Vec<u8>,
+    sizes: Vec<usize>,
+}
+
+impl Rows {
+    fn read(heap: Global, store: &Store, bufs: &IoBufs<'_, Run>) -> Result<Rows, AllocError> {
+        let mut bytes = Vec::with_capacity(heap, bufs.remaining())?;
+        let mut sizes = Vec::with_capacity(heap, bufs.chunk_count())?;
+        for chunk in bufs.iter() {
+            bytes.extend_from_slice(bytes_of(heap, store, chunk)?.as_slice())?;
+            sizes.push(chunk.remaining())?;
+        }
+        Ok(Rows { bytes, sizes })
+    }
+
+    fn bordered(&self) -> Bordered<'_> {
+        Bordered {
+            bytes: self.bytes.as_slice(),
+            sizes: self.sizes.as_slice(),
+        }
+    }
 }
 
 // The runs that are spelled.
@@ -110,8 +126,8 @@ impl Tracer<'_> {
         match (call, copied) {
             (_, Some(count)) => println!(rt; "   {}", Copied(&out[..count]))?,
             (Call::SplitTo(_), None) => {
-                let rows = rows_of(rt.alloc(), &self.store, &target)?;
-                println!(rt; "   {}", HandedOut(Bordered(rows.as_slice())))?;
+                let rows = Rows::read(rt.alloc(), &self.store, &target)?;
+                println!(rt; "   {}", HandedOut(rows.bordered()))?;
             }
             (_, None) => println!(rt; "   accepted")?,
         }
@@ -133,12 +149,12 @@ impl Tracer<'_> {
 
     // Prints what the container holds.
     fn print_state(&self) -> anyhow::Result<()> {
-        let rows = rows_of(self.rt.alloc(), &self.store, &self.bufs)?;
+        let rows = Rows::read(self.rt.alloc(), &self.store, &self.bufs)?;
         let count = self.bufs.chunk_count();
         let contents = Contents {
             count,
             remaining: self.bufs.remaining(),
-            chunks: Bordered(rows.as_slice()),
+            chunks: rows.bordered(),
         };
         println!(self.rt; "   {contents}")?;
         let totals = Totals {

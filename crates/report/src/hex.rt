@@ -1,21 +1,17 @@
 // Bytes as hexadecimal digits.
 ghost use Rattle.std.specs.Prelude.{Some};
+ghost use Rattle.std.specs.Fmt.{WritesOnOk};
 ghost use Rattle.report.specs.Hex.{pair, hex_of};
 
 use std::fmt;
 
-// A byte that is shown as `0a`.
-#[derive(Clone, Copy)]
-struct Pair(u8);
-
-impl fmt::Display for Pair {
-    ghost output = { λ p. Some (pair p.0) };
-
-    #[tactic(auto, using(std::proofs::lemmas::Fmt::hex_byte))]
-    fn fmt<W: fmt::Write>(&self, f: &mut fmt::Formatter<W>) -> fmt::Result {
-        let byte = self.0;
-        write!(f, "{byte:02x}")
-    }
+// A byte as `0a`. Its two characters are written one by one: `{:02x}` would take half as long again, and this is most of
+// what the programs do.
+fn write_byte<W: fmt::Write>(f: &mut fmt::Formatter<W>, byte: u8) -> fmt::Result
+    ensures { WritesOnOk W.write_str_gives f.old result (pair byte) f.new }
+{
+    f.write_char(char::from_digit(u32::from(byte / 16), 16).unwrap())?;
+    f.write_char(char::from_digit(u32::from(byte % 16), 16).unwrap())
 }
 
 // Bytes that are shown as `00 ff 0a`.
@@ -29,9 +25,10 @@ impl fmt::Display for Hex<'_> {
         let [first, rest @ ..] = self.0 else {
             return Ok(());
         };
-        write!(f, "{}", Pair(*first))?;
+        write_byte(f, *first)?;
         for b in rest {
-            write!(f, " {}", Pair(*b))?;
+            f.write_char(' ')?;
+            write_byte(f, *b)?;
         }
         Ok(())
     }

@@ -4,7 +4,7 @@ use Rattle.std.specs.List.{prefix_len}
 use Rattle.std.proofs.lemmas.Bool.{eqb-false, true≢false}
 use Rattle.text.specs.Words.{blank, solid, behind, first_word, past_word, ended, first_words, words}
 
-past_shorter : (text : List ℕ) → ended text ≡ false → length (past_word text) < length text
+pub past_shorter : (text : List ℕ) → ended text ≡ false → length (past_word text) < length text
 past_shorter text e =
     let u : List ℕ = behind blank text in
     omega (arith, eqb-false (length (first_word text)) 0 e, length-take (prefix_len solid u) u, length-drop (prefix_len solid u) u, length-drop (prefix_len blank text) text)

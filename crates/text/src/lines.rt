@@ -4,7 +4,7 @@ ghost use Rattle.text.specs.Lines.{run_of, named, call_of};
 
 use crate::arguments::last_number;
 use crate::numbers::hex_byte;
-use crate::unreadable::Unreadable;
+pub use crate::unreadable::Unreadable;
 use crate::words::{next_word, split_name};
 use calls::call::Call;
 
@@ -22,11 +22,11 @@ fn run(text: &[u8]) -> Result<Call, Unreadable>
 fn call_named(name: &[u8], rest: &[u8]) -> Result<Call, Unreadable>
     ensures { result ≡ named name.now rest.now }
 {
-    match str::from_utf8(name) {
-        Ok("run") => run(rest),
-        Ok("cut") => last_number(rest).map(|n| Call::Cut { n }),
-        Ok("advance") => last_number(rest).map(|n| Call::Advance { n }),
-        Ok("write_out") => last_number(rest).map(|n| Call::WriteOut { n }),
+    match name {
+        b"run" => run(rest),
+        b"cut" => last_number(rest).map(|n| Call::Cut { n }),
+        b"advance" => last_number(rest).map(|n| Call::Advance { n }),
+        b"write_out" => last_number(rest).map(|n| Call::WriteOut { n }),
         _ => Err(Unreadable::UnknownCall),
     }
 }

@@ -1,6 +1,5 @@
 // Numbers as words.
 ghost use Rattle.std.specs.Prelude.{◌≡◌};
-ghost use Rattle.std.specs.Str.{all_ascii_digits};
 ghost use Rattle.text.specs.Numbers.{digit_of, byte_of, decimal_of};
 
 // The value of a hexadecimal digit.
@@ -23,19 +22,20 @@ pub fn hex_byte(word: &[u8]) -> Option<u8>
     Some(16 * high + low)
 }
 
-fn all_digits(word: &[u8]) -> bool
-    ensures { result ≡ all_ascii_digits word.now }
-{
-    word.iter().all(u8::is_ascii_digit)
-}
-
 // The number that decimal digits write, where it fits.
 pub fn decimal(word: &[u8]) -> Option<usize>
     ensures { result ≡ decimal_of word.now }
 {
-    // A sign, which `parse` would take, is no digit.
-    if !all_digits(word) {
+    if word.is_empty() {
         return None;
     }
-    str::from_utf8(word).ok()?.parse().ok()
+    let mut value: usize = 0;
+    // A loop: the library's `parse` takes a sign and wants text, so a word would be gone over three times.
+    for b in word {
+        if !b.is_ascii_digit() {
+            return None;
+        }
+        value = value.checked_mul(10)?.checked_add((*b - b'0') as usize)?;
+    }
+    Some(value)
 }

@@ -1,8 +1,8 @@
-use Rattle.std.proofs.Common.{map, take, Ok}
-use Rattle.std.specs.List.{flat_map}
+use Rattle.std.proofs.Common.{◌≡◌, ℕ, List, ◌++◌, drop, Ok}
 use Rattle.std.specs.Fmt.{WritesOnOk}
-use Rattle.container_report.specs.Borders.{behind_border}
+use Rattle.container_report.proofs.Bordering.{others_words}
 use Rattle.container_report.proofs.border.BorderedDisplay.fmt.Given as goal
 
-abbrev pub invariant-loop-chunk : goal.invariant-loop-chunk
-invariant-loop-chunk g l = WritesOnOk g.W.Write.write_str_gives l.initial.f (Ok tt) (flat_map behind_border (map (λ chunk. chunk.items) (take l.chunk-index l.others))) l.f
+-- what was written, and what is still to be written behind it
+abbrev pub invariant-loop-size : goal.invariant-loop-size
+invariant-loop-size g l = (done : List ℕ) × WritesOnOk g.W.Write.write_str_gives l.initial.f (Ok tt) done l.f × (done ++ others_words (drop l.size-index l.others) l.rest ≡ others_words l.others l.initial.rest)
