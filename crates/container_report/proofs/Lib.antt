@@ -1,1 +1,2 @@
 pub mod Bordering
+pub mod Counted

@@ -9,6 +9,10 @@ abbrev pub cut_up : List ℕ → List ℕ → List (List ℕ)
 cut_up [] bytes = []
 cut_up (n ∷ ns) bytes = take n bytes ∷ cut_up ns (drop n bytes)
 
+-- the bytes of each chunk
+abbrev pub bytes_of : Bordered → List (List ℕ)
+bytes_of b = cut_up b.sizes.now b.bytes.now
+
 -- a chunk behind another: a border, and its bytes
 abbrev pub behind_border : List ℕ → List ℕ
 behind_border chunk = codes " | " ++ hex_of chunk

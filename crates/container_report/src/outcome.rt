@@ -18,7 +18,7 @@ impl fmt::Display for HandedOut<'_> {
         write!(
             f,
             "accepted, handed out {} [{}]",
-            self.0.byte_count(),
+            self.0.lent_count(),
             self.0
         )
     }
